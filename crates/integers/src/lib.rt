@@ -1,0 +1,1 @@
+// No code: signed numbers beside unsigned ones, and their laws.

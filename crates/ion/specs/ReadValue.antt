@@ -1,0 +1,50 @@
+-- The reader of a value: it takes the writer's bytes and no others. Assumes nothing.
+use Prim.Native.Nat.{ℕ, _+_, _-_}
+use mathlib.Core.Bool.{Bool, true, false, cond, _&&_, _||_}
+use mathlib.Core.List.{List, [], _∷_}
+use lib.Dec.{eqb, ltb}
+use lib.ListN.{length, take}
+use Rattle.ion.specs.Refusal.{inputEnds, firstByteRefused, bodyRefused}
+use Rattle.ion.specs.Pair.{noStamp}
+use Rattle.ion.specs.Check.{checkOf}
+use Rattle.ion.specs.Value.{bodyOf}
+use Rattle.ion.specs.Decode.{decoded}
+use Rattle.ion.specs.declared.Timestamp.{Timestamp}
+use Rattle.ion.specs.declared.Read.{Read}
+
+abbrev pub refusedReading : ℕ → Read
+refusedReading n = record { number = n; stamp = noStamp; taken = 0 }
+
+abbrev pub acceptedReading : Timestamp → ℕ → Read
+acceptedReading s n = record { number = 0; stamp = s; taken = n }
+
+-- whether two lists are the same
+unfoldable pub same : List ℕ → List ℕ → Bool
+same [] [] = true
+same [] (y ∷ t) = false
+same (x ∷ s) [] = false
+same (x ∷ s) (y ∷ t) = eqb x y && same s t
+
+-- whether the bytes b are the body of an accepted timestamp, s
+unfoldable pub isBodyOf : List ℕ → Timestamp → Bool
+isBodyOf b s = eqb (checkOf s .number) 0 && same (bodyOf s) b
+
+-- the body b, with which n bytes are taken
+unfoldable pub readBody : ℕ → List ℕ → Read
+readBody n b = cond (isBodyOf b (decoded b)) (acceptedReading (decoded b) n) (refusedReading bodyRefused)
+
+-- a body of n bytes after a header of k: all there, or 13
+unfoldable pub readAfter : ℕ → ℕ → List ℕ → Read
+readAfter k n s = cond (ltb (length s) n) (refusedReading inputEnds) (readBody (k + n) (take n s))
+
+-- after 6E: a byte 8E to 92, for 14 to 18
+unfoldable pub readLength : List ℕ → Read
+readLength [] = refusedReading inputEnds
+readLength (c ∷ s) = cond (ltb c 0x8e || ltb 0x92 c) (refusedReading bodyRefused) (readAfter 2 (c - 0x80) s)
+
+-- the value with which the bytes begin
+unfoldable pub readOf : List ℕ → Read
+readOf [] = refusedReading inputEnds
+readOf (d ∷ s) =
+    cond (ltb d 0x60 || ltb 0x6e d) (refusedReading firstByteRefused)
+    (cond (eqb d 0x6e) (readLength s) (readAfter 1 (d - 0x60) s))

@@ -1,0 +1,30 @@
+-- What the program `stamps` prints for an input. Assumes nothing.
+use Prim.Native.Nat.{ℕ, zero, suc}
+use Prim.Native.Char.{code}
+use mathlib.Core.Bool.{true, false}
+use mathlib.Core.List.{List, [], _∷_, _++_}
+use lib.Dec.{eqb, ltb}
+use lib.ListN.{length, drop}
+use Rattle.ion.specs.Refusal.{longInput}
+use Rattle.ion.specs.Ascii.{ascii}
+use Rattle.ion.specs.Padded.{padded}
+use Rattle.ion.specs.Text.{textOf}
+use Rattle.ion.specs.ReadValue.{readOf}
+
+abbrev pub lineOf : List ℕ → List ℕ
+lineOf s = s ++ (code "\n" ∷ [])
+
+abbrev pub stopLine : ℕ → List ℕ
+stopLine n = lineOf (ascii "stop " ++ padded 1 n)
+
+-- a line for each value, of which n are read at most
+unfoldable pub linesOf : ℕ → List ℕ → List ℕ
+linesOf zero s = []
+linesOf (suc n) [] = []
+linesOf (suc n) (b ∷ s) =
+    let r = readOf (b ∷ s) in
+    elim (eqb (r .number) 0) [ true ↦ lineOf (textOf (r .stamp)) ++ linesOf n (drop (r .taken) (b ∷ s)) | false ↦ stopLine (r .number) ]
+
+-- an input has no more values than bytes
+unfoldable pub outputOf : List ℕ → List ℕ
+outputOf s = elim (ltb 65536 (length s)) [ true ↦ stopLine longInput | false ↦ linesOf (length s) s ]

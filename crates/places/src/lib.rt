@@ -1,0 +1,1 @@
+// No code: numbers in places of any base, tables, and their laws.
