@@ -1,0 +1,28 @@
+-- Runs of bytes put one after another into an array that is lent from call to call. Assumes nothing.
+use mathlib.Core.Path.{_≡_, refl, sym, ap, ap₂, _∙_}
+use mathlib.Core.List.{List, [], _++_}
+use Prim.Native.Nat.{ℕ, _+_, _≤_}
+use native.Mathlib.Nat.{add-zero}
+use native.Mathlib.Omega.{arith}
+use lib.ListN.{length, length-append, take, take-append-drop}
+use Rattle.ion.specs.Output.{over, Run}
+use Rattle.output.proofs.Stores.{take-over, over-over}
+
+pub run-none : (d : List ℕ) (at : ℕ) → Run d at [] d at
+run-none d at = record { bytes = rw (add-zero at) (sym (take-append-drop at d)); next = omega arith }
+
+pub run-two : {d e f : List ℕ} {a b c : ℕ} {s t : List ℕ} → Run d a s e b → Run e b t f c → c ≤ length d → Run d a (s ++ t) f c
+run-two {d} {e} {f} {a} {b} {c} {s} {t} g h l =
+    let n = length s in
+    let x : over e b t ≡ over (over d a s) (a + n) t = ap₂ (λ (y : List ℕ) (k : ℕ). over y k t) (g .bytes) (g .next) in
+    record {
+      bytes = h .bytes ∙ x ∙ over-over d a s t n refl (omega (arith, g .next, h .next));
+      next = omega (arith, g .next, h .next, length-append s t);
+    }
+
+pub run-is : {d e : List ℕ} {a c : ℕ} {s t : List ℕ} → Run d a s e c → s ≡ t → Run d a t e c
+run-is {d} {e} {a} {c} {s} {t} g q = record { bytes = g .bytes ∙ ap (over d a) q; next = g .next ∙ ap (λ (l : List ℕ). a + length l) q }
+
+-- what stands before the end
+pub run-front : {d e : List ℕ} {a c : ℕ} {s : List ℕ} → Run d a s e c → a ≤ length d → take c e ≡ take a d ++ s
+run-front {d} {e} {a} {c} {s} g h = ap₂ take (g .next) (g .bytes) ∙ take-over d a s (length s) refl h

@@ -1,0 +1,110 @@
+-- Bytes put into a buffer, one run after another, and stores from the front and from the back. Assumes nothing.
+use mathlib.Core.Path.{_≡_, refl, sym, ap, ap₂, _∙_}
+use mathlib.Core.Bool.{true, false}
+use mathlib.Core.List.{List, [], _∷_, _++_, append-assoc}
+use Prim.Native.Nat.{ℕ, zero, suc, _+_, _-_, _≤_, _<_}
+use native.Mathlib.Nat.{add-zero}
+use native.Mathlib.Numerals.{add-one}
+use native.Mathlib.Omega.{arith}
+use native.Mathlib.Decide.{decLe}
+use borrow.Author.Tests.{le-leb, lt-leb}
+use lib.ListN.{length, take, drop, set, getD, length-append, length-drop, take-append-drop}
+use lib.Seq.{take-at, drop-at, drop-drop, length-take-le, paste, paste-suc, take-length}
+use Rattle.places.specs.Places.{placesOn, places}
+use Rattle.places.proofs.Laws.{places-append, length-places}
+use Rattle.ion.specs.Output.{over, put, roomFor, wrote, putAfter, wroteAfter, refusedWriting, Run}
+use Rattle.ion.specs.Refusal.{shortBuffer}
+use Rattle.ion.specs.declared.Written.{Written}
+
+-- ---- a writer's answer and its buffer
+
+pub room-fits : (size at n : ℕ) → at + n ≤ size → roomFor size at n ≡ record { number = 0; written = n }
+unfolding roomFor
+room-fits size at n h = rw (le-leb (at + n) size h)
+
+pub room-short : (size at n : ℕ) → size < at + n → roomFor size at n ≡ refusedWriting shortBuffer
+unfolding roomFor
+room-short size at n h = rw (lt-leb (at + n) size h)
+
+-- a writer whose room was found has put its bytes, and one whose room was not has left the buffer
+pub put-fits : (d : List ℕ) (at : ℕ) (s : List ℕ) → at + length s ≤ length d → put d at s ≡ over d at s
+unfolding put
+put-fits d at s h = rw (le-leb (at + length s) (length d) h)
+
+pub put-short : (d : List ℕ) (at : ℕ) (s : List ℕ) → length d < at + length s → put d at s ≡ d
+unfolding put
+put-short d at s h = rw (lt-leb (at + length s) (length d) h)
+
+-- what every writer of the bytes s shows: w is what `room` answered for them, and so what the writer answers
+module _ (d : List ℕ) (at : ℕ) (s : List ℕ) {w : Written} (answered : w ≡ wrote d at s) where
+  pub has-room : w .number ≡ 0 → at + length s ≤ length d
+  has-room e = go (decLe (at + length s) (length d))
+    where
+      go : Dec (at + length s ≤ length d) → at + length s ≤ length d
+      go (yes h) = h
+      go (no h) =
+          let short = answered ∙ room-short (length d) at (length s) (omega arith) in
+          let z : shortBuffer ≡ 0 = sym (ap (λ (x : Written). x .number) short) ∙ e in
+          absurd (omega arith)
+
+  no-room : (w .number ≡ 0 → ⊥) → length d < at + length s
+  no-room e = go (decLe (at + length s) (length d))
+    where
+      go : Dec (at + length s ≤ length d) → length d < at + length s
+      go (yes h) = absurd (e (ap (λ (x : Written). x .number) (answered ∙ room-fits (length d) at (length s) h)))
+      go (no h) = omega arith
+
+  pub refused-writing : (w .number ≡ 0 → ⊥) → (w ≡ wrote d at s) × (d ≡ put d at s)
+  refused-writing e = (answered, sym (put-short d at s (no-room e)))
+
+  pub written : {e : List ℕ} → w .number ≡ 0 → e ≡ over d at s → (w ≡ wrote d at s) × (e ≡ put d at s)
+  written z p = (answered, p ∙ sym (put-fits d at s (has-room z)))
+
+-- what stands in front of the end of what was put, and behind it
+pub take-over : (d : List ℕ) (at : ℕ) (s : List ℕ) (n : ℕ) → length s ≡ n → at ≤ length d → take (at + n) (over d at s) ≡ take at d ++ s
+take-over d at s n e h =
+    rw (← append-assoc (take at d) s (drop (at + length s) d))
+    (take-at (take at d ++ s) (drop (at + length s) d) (at + n) (simp (length-append, length-take-le at d h, e)))
+
+pub drop-over : (d : List ℕ) (at : ℕ) (s : List ℕ) (n : ℕ) → length s ≡ n → at ≤ length d → drop (at + n) (over d at s) ≡ drop (at + n) d
+drop-over d at s n e h =
+    rw (← append-assoc (take at d) s (drop (at + length s) d), ← e)
+    (drop-at (take at d ++ s) (drop (at + length s) d) (at + length s) (simp (length-append, length-take-le at d h)))
+
+pub length-over : (d : List ℕ) (at : ℕ) (s : List ℕ) → at + length s ≤ length d → length (over d at s) ≡ length d
+length-over d at s h = simp (length-append, length-take-le at d (omega arith), length-drop) (omega arith)
+
+-- one run of bytes after another
+pub over-over : (d : List ℕ) (at : ℕ) (s t : List ℕ) (n : ℕ) → length s ≡ n → at + n + length t ≤ length d
+    → over (over d at s) (at + n) t ≡ over d at (s ++ t)
+over-over d at s t n e h =
+    let r = drop (at + n + length t) d in
+    let k : at + n + length t ≡ at + length (s ++ t) = omega (arith, length-append s t) in
+    ap₂ (λ (x y : List ℕ). x ++ (t ++ y)) (take-over d at s n e (omega arith))
+    (sym (drop-drop (length t) (at + n) (over d at s)) ∙ ap (drop (length t)) (drop-over d at s n e (omega arith)) ∙ drop-drop (length t) (at + n) d)
+    ∙ append-assoc (take at d) s (t ++ r)
+    ∙ ap (λ (x : List ℕ). take at d ++ x) (sym (append-assoc s t r) ∙ ap (λ (j : ℕ). (s ++ t) ++ drop j d) k)
+
+-- ---- a copy from the front: `paste` of lib.Seq is the first n of s in place
+
+pub paste-over : (d : List ℕ) (at : ℕ) (s : List ℕ) (n : ℕ) → length s ≡ n → paste d at s n ≡ over d at s
+paste-over d at s n e = rw (← e, take-length s) (append-assoc (take at d) s (drop (at + length s) d))
+
+pub paste-next : (d b : List ℕ) (at : ℕ) (s : List ℕ) (j x : ℕ) → at + length s ≤ length d → j < length s → b ≡ paste d at s j → x ≡ getD s j 0
+    → set b (at + j) x ≡ paste d at s (j + 1)
+paste-next d b at s j x hd hj eb ex = rw (eb, ex, add-one j) (paste-suc d at s j 0 (omega arith) hj)
+
+-- ---- a store from the back: the places of a number, as `place-stored` of places has them
+
+-- a list that begins as d does and goes on with s, and then as d does again
+pub over-is : (d l : List ℕ) (at : ℕ) (s : List ℕ) → take at l ≡ take at d → drop at l ≡ s ++ drop (at + length s) d → l ≡ over d at s
+over-is d l at s e f = sym (take-append-drop at l) ∙ ap₂ _++_ e f
+
+-- the loop's end
+pub places-stored : (b : ℕ) (f : ℕ → ℕ) (d l : List ℕ) (at n v i q : ℕ) → i ≡ at → take at l ≡ take at d
+    → placesOn b f (i - at) q (drop i l) ≡ placesOn b f n v (drop (at + n) d) → l ≡ over d at (places b f n v)
+unfolding placesOn places
+places-stored b f d l at n v i q e et el =
+    let z : at - at ≡ 0 = omega arith in
+    over-is d l at (places b f n v) et
+    (rw (e, z) at el ∙ sym (places-append b f n v [] (drop (at + n) d)) ∙ ap (λ (m : ℕ). places b f n v ++ drop (at + m) d) (sym (length-places b f n v)))
