@@ -1,0 +1,1 @@
+// Order, equality and distance of two timestamps.
