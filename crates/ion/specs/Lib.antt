@@ -27,3 +27,4 @@ pub mod Value
 pub mod Decode
 pub mod ReadValue
 pub mod Stamps
+pub mod ReadText
