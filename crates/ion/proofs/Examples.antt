@@ -25,7 +25,7 @@ use Rattle.ion.specs.Count.{countOf}
 use Rattle.ion.specs.Order.{cmpOf, eqOf, distanceOf}
 use Rattle.ion.specs.Text.{marked, fractionText, clockText, minutesText, offsetText, fieldsText, textOf}
 use Rattle.ion.specs.Value.{offsetBytes, varuints, fieldCount, fractionBytes, bodyFrom, bodyOf, header, valueOf}
-use Rattle.ion.specs.Decode.{decodeOffset, decodeFields, filled, precisionWith, decodeFraction, pairFrom, decoded}
+use Rattle.ion.specs.Decode.{decodeOffset, decodeFields, decodeFraction, filled, precisionWith, decodeBody, pairFrom}
 use Rattle.ion.specs.ReadValue.{same, isBodyOf, readBody, readAfter, readLength, readOf}
 use Rattle.ion.specs.declared.BuilderFields.{BuilderFields}
 use Rattle.ion.specs.declared.BuilderOffset.the-variants.{FromLocalFields}
@@ -186,5 +186,5 @@ table =
 
 -- every row
 examples : map (λ (r : Row). r .given) table ≡ map (λ (r : Row). r .stated) table
-unfolding table row date minute sixth at p1 p3 p4 p5 p6 p7 p8 p1Bytes p3Bytes p4Bytes p5Bytes p6Bytes p7Bytes p8Bytes stamp answered built refused text written readBack taken compared apart placesOn places countIn count placeCount valueFrom groups varuint scanFrom readVarUInt signedCount signed varint readVarInt intCount int readInt decimalBytes padded isLeap monthLengthOf sumBelow wordOf fieldsOf capped numberOf pairOf checkOf utcFields countOf cmpOf eqOf distanceOf marked fractionText clockText minutesText offsetText fieldsText textOf offsetBytes varuints fieldCount fractionBytes bodyFrom bodyOf header valueOf decodeOffset decodeFields filled precisionWith decodeFraction pairFrom decoded same isBodyOf readBody readAfter readLength readOf
+unfolding table row date minute sixth at p1 p3 p4 p5 p6 p7 p8 p1Bytes p3Bytes p4Bytes p5Bytes p6Bytes p7Bytes p8Bytes stamp answered built refused text written readBack taken compared apart placesOn places countIn count placeCount valueFrom groups varuint scanFrom readVarUInt signedCount signed varint readVarInt intCount int readInt decimalBytes padded isLeap monthLengthOf sumBelow wordOf fieldsOf capped numberOf pairOf checkOf utcFields countOf cmpOf eqOf distanceOf marked fractionText clockText minutesText offsetText fieldsText textOf offsetBytes varuints fieldCount fractionBytes bodyFrom bodyOf header valueOf decodeOffset decodeFields decodeFraction filled precisionWith decodeBody pairFrom same isBodyOf readBody readAfter readLength readOf
 examples = refl

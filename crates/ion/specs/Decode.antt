@@ -1,9 +1,8 @@
--- The pair that the bytes of a body are taken for. It never refuses: ReadValue.antt takes its word only where that pair is accepted
--- and has these bytes. Assumes nothing.
+-- The parts of a body of Ion binary, each in its shortest form. Assumes nothing.
 use Prim.Native.Nat.{ℕ, zero, suc, _-_, _*_}
-use mathlib.Core.Bool.{Bool, true, false, cond}
+use mathlib.Core.Bool.{Bool, true, false, cond, not, _&&_, _||_}
 use mathlib.Core.List.{List, [], _∷_, _++_}
-use lib.Dec.{leb}
+use lib.Dec.{eqb, leb, ltb}
 use lib.IntN.{ℤ, pos, negsuc}
 use lib.ListN.{length, drop, getD}
 use Rattle.ion.specs.VarUInt.{readVarUInt}
@@ -27,6 +26,11 @@ use Rattle.ion.specs.declared.VarIntRead.the-variants as int
 use Rattle.ion.specs.declared.IntRead.{IntRead}
 use Rattle.ion.specs.declared.IntRead.the-variants as magnitude
 
+-- what bytes are, or that they are no such thing
+pub data Decoded (A : Type 0) : Type 0 where
+  found : A → Decoded A
+  nothing : Decoded A
+
 -- ---- the offset, and what follows it
 
 -- negative zero is unknown
@@ -35,25 +39,52 @@ signedOffset false m = Known (minutesIs (pos m))
 signedOffset true zero = Unknown
 signedOffset true (suc m) = Known (minutesIs (negsuc m))
 
-abbrev pub offsetFrom : List ℕ → VarIntRead → Offset × List ℕ
-offsetFrom s (int.Value g m n) = (signedOffset g m, drop n s)
-offsetFrom s int.Cut = (Unknown, [])
-offsetFrom s int.Bad = (Unknown, [])
+abbrev pub offsetFrom : List ℕ → VarIntRead → Decoded (Offset × List ℕ)
+offsetFrom s (int.Value g m n) = found (signedOffset g m, drop n s)
+offsetFrom s int.Cut = nothing
+offsetFrom s int.Bad = nothing
 
-unfoldable pub decodeOffset : List ℕ → Offset × List ℕ
+unfoldable pub decodeOffset : List ℕ → Decoded (Offset × List ℕ)
 decodeOffset s = offsetFrom s (readVarInt 1439 s)
 
 -- ---- up to n fields, and what follows them
 
-abbrev pub fieldFrom : (List ℕ → List ℕ × List ℕ) → List ℕ → VarUIntRead → List ℕ × List ℕ
-fieldFrom f s (uint.Value v k) = (v ∷ f (drop k s) .0, f (drop k s) .1)
-fieldFrom f s uint.Cut = ([], s)
-fieldFrom f s uint.Bad = ([], s)
+abbrev pub oneMore : ℕ → Decoded (List ℕ × List ℕ) → Decoded (List ℕ × List ℕ)
+oneMore v (found p) = found (v ∷ p .0, p .1)
+oneMore v nothing = nothing
 
--- no field is above 16383, which the word's widest, the year, can hold
-unfoldable pub decodeFields : ℕ → List ℕ → List ℕ × List ℕ
-decodeFields zero s = ([], s)
-decodeFields (suc n) s = fieldFrom (decodeFields n) s (readVarUInt 16383 s)
+abbrev pub fieldFrom : (List ℕ → Decoded (List ℕ × List ℕ)) → List ℕ → VarUIntRead → Decoded (List ℕ × List ℕ)
+fieldFrom after s (uint.Value v k) = oneMore v (after (drop k s))
+fieldFrom after s uint.Cut = nothing
+fieldFrom after s uint.Bad = nothing
+
+-- no field is above 16383, the most that the word's widest, the year, can hold
+unfoldable pub decodeFields : ℕ → List ℕ → Decoded (List ℕ × List ℕ)
+decodeFields zero s = found ([], s)
+decodeFields (suc n) [] = found ([], [])
+decodeFields (suc n) (b ∷ s) = fieldFrom (decodeFields n) (b ∷ s) (readVarUInt 16383 (b ∷ s))
+
+-- ---- digits and coefficient: an exponent below 0, then all that is left
+
+abbrev pub coefficientFrom : ℕ → IntRead → Decoded (ℕ × ℕ)
+coefficientFrom d (magnitude.Value c) = found (d, c)
+coefficientFrom d magnitude.Bad = nothing
+
+abbrev pub fractionFrom : List ℕ → VarIntRead → Decoded (ℕ × ℕ)
+fractionFrom s (int.Value g m n) = cond (g && ltb 0 m) (coefficientFrom m (readInt (drop n s))) nothing
+fractionFrom s int.Cut = nothing
+fractionFrom s int.Bad = nothing
+
+unfoldable pub decodeFraction : List ℕ → Decoded (ℕ × ℕ)
+decodeFraction [] = found (0, 0)
+decodeFraction (b ∷ s) = fractionFrom (b ∷ s) (readVarInt 63 (b ∷ s))
+
+-- ---- the whole body: an offset, UTC fields and a coefficient
+
+pub record Body : Type 0 where
+  pub offset : Offset
+  pub utc : Fields
+  pub coefficient : ℕ
 
 abbrev pub firstValues : List ℕ
 firstValues = 0 ∷ 1 ∷ 1 ∷ 0 ∷ 0 ∷ 0 ∷ []
@@ -62,31 +93,15 @@ firstValues = 0 ∷ 1 ∷ 1 ∷ 0 ∷ 0 ∷ 0 ∷ []
 unfoldable pub filled : List ℕ → List ℕ
 filled l = l ++ drop (length l) firstValues
 
--- the precision with k fields, where there is one
+-- a year, or more, and no hour without its minute
+abbrev pub isFieldCount : ℕ → Bool
+isFieldCount k = not (eqb k 0) && not (eqb k 4)
+
+-- the precision with k fields
 unfoldable pub precisionWith : ℕ → ℕ
 precisionWith k = cond (leb k 3) (k - 1) (k - 2)
 
--- ---- digits and coefficient
-
-abbrev pub coefficientFrom : IntRead → ℕ
-coefficientFrom (magnitude.Value m) = m
-coefficientFrom magnitude.Bad = 0
-
-abbrev pub fractionFrom : List ℕ → VarIntRead → ℕ × ℕ
-fractionFrom s (int.Value g m n) = (m, coefficientFrom (readInt (drop n s)))
-fractionFrom s int.Cut = (0, 0)
-fractionFrom s int.Bad = (0, 0)
-
-unfoldable pub decodeFraction : List ℕ → ℕ × ℕ
-decodeFraction s = fractionFrom s (readVarInt 63 s)
-
--- ---- the pair: UTC fields are moved to local ones by the offset
-
-abbrev pub localBy : Offset → Fields → Fields
-localBy Unknown u = withTime u (timeIn u) (rawOf Unknown)
-localBy (Known m) u = withTime u (shifted (timeIn u) (m .0)) (rawOf (Known m))
-
--- six fields, a precision and digits, with no offset yet
+-- six fields, a precision and digits; a UTC form has no offset
 abbrev pub fieldsFrom : List ℕ → ℕ → ℕ → Fields
 fieldsFrom v p d =
     record {
@@ -101,15 +116,29 @@ fieldsFrom v p d =
       offset = rawOf Unknown;
     }
 
--- the pair of an offset, UTC fields and a coefficient
-unfoldable pub pairFrom : Offset → Fields → ℕ → Timestamp
-pairFrom o u c = pairIs (wordOf (localBy o u)) (c * scale (u .digits))
+abbrev pub bodyIs : Offset → List ℕ → ℕ → ℕ → Body
+bodyIs o l d c = record { offset = o; utc = fieldsFrom (filled l) (precisionWith (length l)) d; coefficient = c }
 
-abbrev pub joinParts : Offset → List ℕ → ℕ × ℕ → Timestamp
-joinParts o v x = pairFrom o (fieldsFrom (filled v) (precisionWith (length v)) (x .0)) (x .1)
+abbrev pub afterFields : Offset → List ℕ → Decoded (ℕ × ℕ) → Decoded Body
+afterFields o l (found x) = found (bodyIs o l (x .0) (x .1))
+afterFields o l nothing = nothing
 
-unfoldable pub decoded : List ℕ → Timestamp
-decoded s =
-    let o = decodeOffset s in
-    let f = decodeFields 6 (o .1) in
-    joinParts (o .0) (f .0) (decodeFraction (f .1))
+abbrev pub afterOffset : Offset → Decoded (List ℕ × List ℕ) → Decoded Body
+afterOffset o (found p) = cond (isFieldCount (length (p .0))) (afterFields o (p .0) (decodeFraction (p .1))) nothing
+afterOffset o nothing = nothing
+
+abbrev pub fromOffset : Decoded (Offset × List ℕ) → Decoded Body
+fromOffset (found p) = afterOffset (p .0) (decodeFields 6 (p .1))
+fromOffset nothing = nothing
+
+unfoldable pub decodeBody : List ℕ → Decoded Body
+decodeBody s = fromOffset (decodeOffset s)
+
+-- ---- the pair of a body: UTC fields are moved to local ones by the offset
+
+abbrev pub localBy : Offset → Fields → Fields
+localBy Unknown u = withTime u (timeIn u) (rawOf Unknown)
+localBy (Known m) u = withTime u (shifted (timeIn u) (m .0)) (rawOf (Known m))
+
+unfoldable pub pairFrom : Body → Timestamp
+pairFrom x = pairIs (wordOf (localBy (x .offset) (x .utc))) (x .coefficient * scale (x .utc .digits))

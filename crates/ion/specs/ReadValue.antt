@@ -8,7 +8,7 @@ use Rattle.ion.specs.Refusal.{inputEnds, firstByteRefused, bodyRefused}
 use Rattle.ion.specs.Pair.{noStamp}
 use Rattle.ion.specs.Check.{checkOf}
 use Rattle.ion.specs.Value.{bodyOf}
-use Rattle.ion.specs.Decode.{decoded}
+use Rattle.ion.specs.Decode.{Decoded, found, nothing, Body, decodeBody, pairFrom}
 use Rattle.ion.specs.declared.Timestamp.{Timestamp}
 use Rattle.ion.specs.declared.Read.{Read}
 
@@ -30,8 +30,12 @@ unfoldable pub isBodyOf : List ℕ → Timestamp → Bool
 isBodyOf b s = eqb (checkOf s .number) 0 && same (bodyOf s) b
 
 -- the body b, with which n bytes are taken
+abbrev pub takenAs : ℕ → List ℕ → Decoded Body → Read
+takenAs n b (found x) = cond (isBodyOf b (pairFrom x)) (acceptedReading (pairFrom x) n) (refusedReading bodyRefused)
+takenAs n b nothing = refusedReading bodyRefused
+
 unfoldable pub readBody : ℕ → List ℕ → Read
-readBody n b = cond (isBodyOf b (decoded b)) (acceptedReading (decoded b) n) (refusedReading bodyRefused)
+readBody n b = takenAs n b (decodeBody b)
 
 -- a body of n bytes after a header of k: all there, or 13
 unfoldable pub readAfter : ℕ → ℕ → List ℕ → Read
