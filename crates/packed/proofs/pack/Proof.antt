@@ -1,5 +1,5 @@
 -- `packed::pack` meets its contract. Assumes nothing.
-use mathlib.Core.Path.{_≡_, sym, ap, _∙_}
+use mathlib.Core.Path.{sym, _∙_}
 use lib.Dec.{lit≤}
 use lib.Bits.{or-zero-r}
 use borrow.Author.Needs.{needs}

@@ -1,0 +1,5 @@
+pub mod Scales
+pub mod Caps
+pub mod Exponents
+pub mod Quotients
+pub mod Multiples
