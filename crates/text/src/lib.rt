@@ -1,0 +1,2 @@
+// Ports of ion-rust's src/text.
+pub mod text_formatter;
