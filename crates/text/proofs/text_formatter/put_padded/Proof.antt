@@ -1,6 +1,6 @@
 -- `text_formatter::put_padded` meets its contract. Assumes nothing.
 use borrow.Author.Needs.{needs}
-use mathlib.Core.Path.{sym, ap, _∙_}
+use mathlib.Core.Path.{ap, _∙_}
 use native.Mathlib.Omega.{arith}
 use Rattle.ion.specs.Output.{over}
 use Rattle.text.proofs.Digits.{length-padded, digits-padded}
