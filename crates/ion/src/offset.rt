@@ -1,7 +1,9 @@
 // Offsets from UTC. A raw number is never read as minutes, nor minutes as a raw number: only the functions
 // here go from one to the other.
 ghost use mathlib.Core.Path.{_≡_};
-ghost use Rattle.ion.specs.Offset.{minutesIs, rawIs};
+ghost use Prim.Native.Nat.{_<_};
+ghost use lib.IntN.{natAbs, negℤ, _-ℤ_};
+ghost use Rattle.ion.specs.Offset.{minutesIs, rawIs, offsetOf, rawOf, minutesOf, isOffset, WithinDay};
 
 // The biased 12-bit number of a packed word: 0 for unknown, else minutes plus 1,440.
 pub struct RawOffset(u16);
@@ -39,5 +41,61 @@ impl OffsetMinutes {
         ensures { λ r. ⌜ r ≡ self .0 ⌝ }
     {
         self.0
+    }
+
+    // Whether the minutes are those of a known offset: less than a day either way.
+    pub fn is_offset(self) -> bool
+        ensures { λ r. ⌜ r ≡ isOffset (self .0) ⌝ }
+    {
+        -1440 < self.0 && self.0 < 1440
+    }
+
+    // The minutes to add for UTC.
+    pub fn negated(self) -> OffsetMinutes
+        requires { ⌜ natAbs (self .0) < 1440 ⌝ }
+        ensures { λ r. ⌜ r ≡ minutesIs (negℤ (self .0)) ⌝ }
+    {
+        OffsetMinutes(-self.0)
+    }
+
+    // The difference of two offsets, this less the other.
+    pub fn less(self, other: OffsetMinutes) -> i32
+        requires { ⌜ (natAbs (self .0) < 1440) × (natAbs (other .0) < 1440) ⌝ }
+        ensures { λ r. ⌜ r ≡ self .0 -ℤ other .0 ⌝ }
+    {
+        self.0 - other.0
+    }
+}
+
+// The offset that a raw number stands for.
+pub fn offset_of(raw: RawOffset) -> Offset
+    ensures { λ r. ⌜ r ≡ offsetOf raw ⌝ }
+{
+    let n = raw.0;
+    if n == 0 {
+        Offset::Unknown
+    } else {
+        Offset::Known(OffsetMinutes(n as i32 - 1440))
+    }
+}
+
+// The raw number of an offset.
+pub fn raw_of(o: Offset) -> RawOffset
+    requires { ⌜ WithinDay o ⌝ }
+    ensures { λ r. ⌜ r ≡ rawOf o ⌝ }
+{
+    match o {
+        Offset::Unknown => RawOffset(0),
+        Offset::Known(m) => RawOffset((m.0 + 1440) as u16),
+    }
+}
+
+// The minutes to subtract for UTC: none where the offset is unknown.
+pub fn minutes_of(o: Offset) -> OffsetMinutes
+    ensures { λ r. ⌜ r ≡ minutesIs (minutesOf o) ⌝ }
+{
+    match o {
+        Offset::Unknown => OffsetMinutes(0),
+        Offset::Known(m) => m,
     }
 }
