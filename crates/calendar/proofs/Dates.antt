@@ -1,0 +1,127 @@
+-- Dates: what is a date, the number of one, and the order that the number keeps. Assumes nothing.
+use mathlib.Core.Path.{_≡_, sym}
+use mathlib.Core.Logic.{_⊎_, inl, inr}
+use mathlib.Core.Bool.{true, false, _&&_, and-false, and-eq-true-iff}
+use Prim.Native.Nat.{ℕ, _+_, _-_, _≤_, _<_}
+use native.Mathlib.Decide.{decLe, decLt}
+use native.Mathlib.Omega.{arith}
+use lib.Dec.{leb}
+use borrow.Author.Tests.{leb-true, le-leb, lt-leb}
+use Rattle.ion.specs.Calendar.{isLeap, monthLengthOf, monthLength, yearLength, sumBelow, monthStart, dayNumber, IsDate, Earlier, daysInMonth, isDate}
+use Rattle.ion.specs.declared.Date.{Date}
+use Rattle.calendar.proofs.Sums.{sum-past}
+use Rattle.calendar.proofs.Years.{leapsBefore, leap-day-le, year-start}
+use Rattle.calendar.proofs.Months.{picker-length, picker-none, month-least, month-from-one, month-to-twelve, month-most, months-year}
+
+-- ---- what is a date
+
+-- a date has a month from 1 to 12, and a day of it up to 31
+module _ (t : Date) (p : IsDate t) where
+  has-day : 0 < monthLength (t .year) (t .month)
+  has-day = omega (arith, p .first, p .last)
+
+  pub month-low : 1 ≤ t .month
+  month-low = month-from-one (isLeap (t .year)) (t .month) has-day
+
+  pub month-of : t .month ≤ 12
+  month-of = month-to-twelve (isLeap (t .year)) (t .month) has-day
+
+  pub day-of : t .day ≤ 31
+  day-of = omega (arith, p .last, month-most (isLeap (t .year)) (t .month))
+
+-- a date that passed the test, and the test of a date, up to the year 10000
+module _ (t : Date) (h : t .year ≤ 10000) where
+  pub is-date : isDate t ≡ true → IsDate t
+  is-date e =
+      let b = and-eq-true-iff (leb 1 (t .day)) (leb (t .day) (daysInMonth (t .year) (t .month))) .0 e in
+      record {
+        first = leb-true 1 (t .day) (b .0);
+        last = omega (arith, leb-true (t .day) (daysInMonth (t .year) (t .month)) (b .1), picker-length (t .year) (t .month) h);
+      }
+
+  pub date-is : IsDate t → isDate t ≡ true
+  date-is p =
+      and-eq-true-iff (leb 1 (t .day)) (leb (t .day) (daysInMonth (t .year) (t .month))) .1
+      (le-leb 1 (t .day) (p .first), le-leb (t .day) (daysInMonth (t .year) (t .month)) (omega (arith, p .last, picker-length (t .year) (t .month) h)))
+
+-- up to day 28 the year and the month decide
+pub low-day : (t : Date) → 1 ≤ t .day → t .day ≤ 28 → (leb (t .year) 10000 && leb 1 (t .month) && leb (t .month) 12) ≡ isDate t
+low-day t h k = go (decLe (t .year) 10000) (decLe 1 (t .month)) (decLe (t .month) 12)
+  where
+    days : ℕ
+    days = daysInMonth (t .year) (t .month)
+
+    none : (0 < days → ⊥) → isDate t ≡ false
+    none n = let l : days < t .day = omega (arith, h, n) in simp (lt-leb (t .day) days l, and-false)
+
+    go : Dec (t .year ≤ 10000) → Dec (1 ≤ t .month) → Dec (t .month ≤ 12) → (leb (t .year) 10000 && leb 1 (t .month) && leb (t .month) 12) ≡ isDate t
+    go (yes y) (yes m) (yes n) =
+        let p = date-is t y (record { first = h; last = omega (arith, k, month-least (isLeap (t .year)) (t .month) m n) }) in
+        simp (le-leb _ _ y, le-leb _ _ m, le-leb _ _ n) (sym p)
+    go (yes y) (yes m) (no n) =
+        let l : 12 < t .month = omega (arith, n) in
+        simp (lt-leb _ _ l, and-false) (sym (none (λ d. n (month-to-twelve (isLeap (t .year)) (t .month) (omega (arith, d, picker-length (t .year) (t .month) y))))))
+    go (yes y) (no m) n =
+        let l : t .month < 1 = omega (arith, m) in
+        simp (lt-leb _ _ l, and-false) (sym (none (λ d. m (month-from-one (isLeap (t .year)) (t .month) (omega (arith, d, picker-length (t .year) (t .month) y))))))
+    go (no y) m n =
+        let l : 10000 < t .year = omega (arith, y) in
+        simp (lt-leb _ _ l) (sym (none (λ d. y (omega (arith, d, picker-none (t .year) (t .month) l)))))
+
+-- ---- the number
+
+-- a date lies in its month, and in its year
+in-month : (t : Date) → IsDate t → {m : ℕ} → t .month < m → monthStart (t .year) (t .month) + (t .day - 1) < monthStart (t .year) m
+in-month t p {m} h = omega (arith, sum-past (monthLengthOf (isLeap (t .year))) (t .month) m h)
+
+pub in-year : (t : Date) → IsDate t → monthStart (t .year) (t .month) + (t .day - 1) < yearLength (t .year)
+in-year t p = omega (arith, in-month t p {m = 13} (omega (arith, month-of t p)), months-year (isLeap (t .year)))
+
+-- the number grows strictly with the date
+pub day-number-mono : (s t : Date) → IsDate s → IsDate t → Earlier s t → dayNumber s < dayNumber t
+day-number-mono s t p q (inl l) = omega (arith, in-year s p, sum-past yearLength (s .year) (t .year) l)
+day-number-mono s t p q (inr (e, inl l)) = rw (← e) (omega (arith, in-month s p l))
+day-number-mono s t p q (inr (e, inr (f, l))) = rw (← e, ← f) (omega arith)
+
+-- of two dates one is earlier, or they are the same
+pub date-order : (s t : Date) → Earlier s t ⊎ ((s ≡ t) ⊎ Earlier t s)
+date-order s t = go (order (s .year) (t .year)) (order (s .month) (t .month)) (order (s .day) (t .day))
+  where
+    Order : ℕ → ℕ → Type 0
+    Order a b = (a < b) ⊎ ((a ≡ b) ⊎ (b < a))
+
+    order : (a b : ℕ) → Order a b
+    order a b = by (decLt a b) (decLt b a)
+      where
+        by : Dec (a < b) → Dec (b < a) → Order a b
+        by (yes h) k = inl h
+        by (no h) (yes k) = inr (inr k)
+        by (no h) (no k) = inr (inl (omega arith))
+
+    go : Order (s .year) (t .year) → Order (s .month) (t .month) → Order (s .day) (t .day) → Earlier s t ⊎ ((s ≡ t) ⊎ Earlier t s)
+    go (inl h) m d = inl (inl h)
+    go (inr (inr h)) m d = inr (inr (inl h))
+    go (inr (inl e)) (inl h) d = inl (inr (e, inl h))
+    go (inr (inl e)) (inr (inr h)) d = inr (inr (inr (sym e, inl h)))
+    go (inr (inl e)) (inr (inl f)) (inl h) = inl (inr (e, inr (f, h)))
+    go (inr (inl e)) (inr (inl f)) (inr (inr h)) = inr (inr (inr (sym e, inr (sym f, h))))
+    go (inr (inl e)) (inr (inl f)) (inr (inl g)) = inr (inl (λ i. record { year = e i; month = f i; day = g i }))
+
+-- the number tells the date
+pub day-number-inj : (s t : Date) → IsDate s → IsDate t → dayNumber s ≡ dayNumber t → s ≡ t
+day-number-inj s t p q e = go (date-order s t)
+  where
+    go : Earlier s t ⊎ ((s ≡ t) ⊎ Earlier t s) → s ≡ t
+    go (inl h) = absurd (omega (arith, day-number-mono s t p q h))
+    go (inr (inl h)) = h
+    go (inr (inr h)) = absurd (omega (arith, day-number-mono t s q p h))
+
+-- from year 1 on there is a year before
+pub after-year-zero : (t : Date) → 1 ≤ t .year → 366 ≤ dayNumber t
+unfolding sumBelow isLeap
+after-year-zero t h = omega (arith, sum-past yearLength 0 (t .year) h)
+
+-- up to the year 10000
+pub day-number-below : (t : Date) → IsDate t → t .year ≤ 10000 → dayNumber t < 3652791
+unfolding leapsBefore
+day-number-below t p h = omega (arith, in-year t p, leap-day-le (isLeap (t .year)), year-start (t .year))

@@ -1,0 +1,54 @@
+// Leap years, the lengths of months, and the days that there are.
+ghost use mathlib.Core.Path.{_≡_};
+ghost use Rattle.ion.specs.Calendar.{isLeap, daysInMonth, isDate};
+use ion::Date;
+
+pub fn is_leap(year: u32) -> bool
+    ensures { λ r. ⌜ r ≡ isLeap year ⌝ }
+{
+    if year % 4 != 0 {
+        return false;
+    }
+    if year % 100 != 0 {
+        return true;
+    }
+    year % 400 == 0
+}
+
+// By month, 1 being January: the days in a year that is no leap year.
+const MONTH_LENGTHS: [u32; 13] = [0, 31, 28, 31, 30, 31, 30, 31, 31, 30, 31, 30, 31];
+
+// The month's length; 0 for a month outside 1 to 12 or a year above 10000.
+pub fn days_in_month(year: u32, month: u32) -> u32
+    ensures { λ r. ⌜ r ≡ daysInMonth year month ⌝ }
+{
+    if year > 10000 {
+        return 0;
+    }
+    if month > 12 {
+        return 0;
+    }
+    if month != 2 {
+        return MONTH_LENGTHS[month as usize];
+    }
+    if is_leap(year) {
+        return 29;
+    }
+    28
+}
+
+// Whether there is such a day in a year up to 10000. Every month has 28 days: up to there the year's length is not asked.
+pub fn is_date(date: Date) -> bool
+    ensures { λ r. ⌜ r ≡ isDate date ⌝ }
+{
+    let year = date.year;
+    let month = date.month;
+    let day = date.day;
+    if day < 1 {
+        return false;
+    }
+    if day <= 28 {
+        return (year <= 10000) & (1 <= month) & (month <= 12);
+    }
+    day <= days_in_month(year, month)
+}
