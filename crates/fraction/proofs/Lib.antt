@@ -1,3 +1,4 @@
+-- The laws of fractions of a second, for their own proofs and for the crates above. Assumes nothing.
 pub mod Scales
 pub mod Caps
 pub mod Exponents

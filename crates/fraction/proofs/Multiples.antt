@@ -14,6 +14,7 @@ use Rattle.fraction.proofs.Scales.{cut-multiple}
 use Rattle.fraction.proofs.Caps.{cap-high, cap-multiple}
 use Rattle.fraction.proofs.Quotients.{up-to}
 
+-- past the eighteenth digit the unit is 1, of which every number is a multiple
 pub decimal-multiple : (n d : ℕ) → attosecondsOf n d % scale d ≡ 0
 decimal-multiple n d = go (decLe d 18)
   where
@@ -21,6 +22,7 @@ decimal-multiple n d = go (decLe d 18)
     go (yes l) = ap (λ (k : ℕ). k % scale d) (sym (up-to n d l)) ∙ mul-mod-left n (scale d)
     go (no k) = let e : 18 - d ≡ 0 = omega arith in ap (λ (j : ℕ). attosecondsOf n d % 10 ^ j) e ∙ mod-one (attosecondsOf n d)
 
+-- what the stages leave of a fraction: no more than its digits
 pub multiple : {x : Fraction} → Fractions x → x .attoseconds < 10 ^ 18 → x .attoseconds % scale (x .digits) ≡ 0
 multiple (stages.millis n) = cap-multiple (n * scale 3) (scale 3) (mul-mod-left n (scale 3))
 multiple (stages.micros n) = cap-multiple (n * scale 6) (scale 6) (mul-mod-left n (scale 6))

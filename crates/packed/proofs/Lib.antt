@@ -1,3 +1,4 @@
+-- The laws of the packed word, for its own proofs and for the crates above. Assumes nothing.
 pub mod Joins
 pub mod Ors
 pub mod Words
