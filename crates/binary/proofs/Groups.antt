@@ -65,6 +65,10 @@ pub scan-last : (l n v k b w : ℕ) (r : List ℕ) → 128 ≤ b → v * 128 + b
 unfolding scanFrom
 scan-last l n v k b w r h e = rw (e, le-leb 128 b h)
 
+pub scan-full : (l n v k b : ℕ) (r : List ℕ) → n ≡ 0 → b < 128 → scanFrom l (suc n) v k (b ∷ r) ≡ Bad
+unfolding scanFrom
+scan-full l n v k b r e h = rw (e, lt-leb 128 b h)
+
 scan-on : (l n c q : ℕ) (t : List ℕ) → q < 128 ^ n → scanFrom l (n + c) 0 0 (placesOn 128 plain n q t) ≡ scanFrom l c q n t
 unfolding placesOn
 scan-on l zero c q t h =

@@ -1,3 +1,4 @@
 pub mod Groups
 pub mod VarUInts
 pub mod VarInts
+pub mod Stored

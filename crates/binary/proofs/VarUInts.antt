@@ -42,9 +42,17 @@ pub length-varuint : (m : ℕ) → length (varuint m) ≡ groupCount m
 unfolding varuint
 length-varuint m = length-groups (groupCount m) m
 
+pub groups-varuint : (m n : ℕ) → n ≡ groupCount m → groups n m ≡ varuint m
+unfolding varuint
+groups-varuint m n e = ap (λ (k : ℕ). groups k m) e
+
+-- ten groups hold 64 bits
+pub count-u64 : (m : ℕ) → m < 2 ^ 64 → groupCount m ≤ 10
+count-u64 m h = count-shortest 9 m (omega arith)
+
 -- ---- a first byte 0 is that of a number that fewer groups hold
 
-first-of-two : (a : ℕ) (t : List ℕ) → 0 < length t → zeroFirst (a ∷ t) ≡ eqb a 0
+pub first-of-two : (a : ℕ) (t : List ℕ) → 0 < length t → zeroFirst (a ∷ t) ≡ eqb a 0
 first-of-two a [] h = absurd (omega arith)
 first-of-two a (b ∷ t) h = refl
 
@@ -85,6 +93,14 @@ padded (suc (suc n)) m r z h = zero-first n m r h ∙ go (decLt m (128 ^ suc n))
     go (no l) =
         let b : 128 ^ suc n ≤ m = omega arith in
         le-ltb m (128 ^ suc n) b ∙ sym (le-ltb (groupCount m) (suc (suc n)) (omega (arith, count-is (suc n) m b h)))
+
+pub read-padded : (l : ℕ) (s : List ℕ) → zeroFirst s ≡ true → readVarUInt l s ≡ Bad
+unfolding readVarUInt
+read-padded l s e = rw e
+
+pub read-scanned : (l : ℕ) (s : List ℕ) → zeroFirst s ≡ false → readVarUInt l s ≡ scanFrom l (groupCount l) 0 0 s
+unfolding readVarUInt
+read-scanned l s e = rw e
 
 -- ---- the shortest form is read back, whatever follows it
 
