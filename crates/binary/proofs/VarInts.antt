@@ -1,6 +1,6 @@
 -- VarInt: for both signs, negative zero among them, the shortest form is read back, whatever is read is a shortest form, and none is the
 -- beginning of another. Assumes nothing.
-use mathlib.Core.Path.{_≡_, refl, sym, ap, _∙_}
+use mathlib.Core.Path.{_≡_, refl, sym, ap, ap₂, _∙_}
 use mathlib.Core.Bool.{Bool, true, false, cond}
 use mathlib.Core.List.{List, [], _∷_, _++_, append-assoc}
 use Prim.Native.Nat.{ℕ, zero, suc, _+_, _-_, _*_, _/_, _%_, _^_, _≤_, _<_}
@@ -8,8 +8,11 @@ use native.Mathlib.Nat.{pow-suc, pow-succ', div-lt-iff-lt-mul, one-le-pow}
 use native.Mathlib.Omega.{arith}
 use borrow.Author.Tests.{le-ltb, lt-ltb, le-leb, lt-leb, eq-eqb, leb-true, leb-false, eqb-true}
 use lib.Count.{leadingZeros, leading-length}
-use lib.Dec.{eqb, leb, lit<}
+use lib.Dec.{eqb, leb, ltb, lit<}
 use lib.IntN.{ℤ, natAbs}
+use mir.Syntax.{w64}
+use mir.Val.{SFits, ofZ, toZ}
+use mir.Facts.{toZ-ofZ}
 use lib.ListN.{length, drop, getD}
 use lib.Seq.{drop-append-seam}
 use Rattle.places.specs.Places.{plain, placesOn}
@@ -103,7 +106,7 @@ read-signed l g m r h =
     let n = signedCount m in
     let f = sign-free m in
     let s : scanFrom l (signedCount l) 0 0 (groups n m ++ r) ≡ found.Value m n =
-        scan-groups l (signedCount l) n m r (signed-some m) (signed-monotone m l h) (omega (arith, signed-held m)) ∙ rw (le-ltb l m h)
+    scan-groups l (signedCount l) n m r (signed-some m) (signed-monotone m l h) (omega (arith, signed-held m)) ∙ rw (le-ltb l m h)
     in
     ap (λ (x : List ℕ). readVarInt l (signFirst g x ++ r)) (f .is)
     ∙ ap (readVarInt l) (sign-append g (f .byte) (f .rest) r)
@@ -116,6 +119,14 @@ read-signed l g m r h =
 pub read-varint : (l : ℕ) (z : ℤ) (r : List ℕ) → natAbs z ≤ l → readVarInt l (varint z ++ r) ≡ Value (isNegative z) (natAbs z) (length (varint z))
 unfolding varint
 read-varint l z r h = read-signed l (isNegative z) (natAbs z) r h
+
+-- the sign and the size of a number that was handed on in 64 bits are its own
+pub handed-on : {z : ℤ} {g : Bool} {m : ℕ} → SFits w64 z → (g ≡ isNegative (toZ w64 (ofZ w64 z))) × (m ≡ natAbs (toZ w64 (ofZ w64 z)))
+    → (m ≡ natAbs z) × (signed g m ≡ varint z)
+unfolding varint
+handed-on {z} {g} {m} f e =
+    let h : (g ≡ isNegative z) × (m ≡ natAbs z) = simp toZ-ofZ at e in
+    (h .1, ap₂ signed (h .0) (h .1))
 
 -- so none is the beginning of another
 pub signed-prefix-free : (g h : Bool) (x y : ℕ) (r s : List ℕ) → signed g x ++ r ≡ signed h y ++ s → (g ≡ h) × (x ≡ y) × (r ≡ s)
@@ -183,6 +194,39 @@ read-signed-is l (c ∷ r) g m j h e =
     below : (i : ℕ) → getD (unsign c ∷ r) i 0 < 256
     below zero = let x = h 0 in omega arith
     below (suc i) = h (suc i)
+
+-- ---- the reader's steps, by the first byte
+
+pub read-none : (l : ℕ) → readVarInt l [] ≡ Cut
+unfolding readVarInt
+read-none l = refl
+
+-- the magnitude of a single byte is in its shortest form
+pub read-alone : (l b : ℕ) (r : List ℕ) → 128 ≤ b → b < 256 → readVarInt l (b ∷ r) ≡ cond (ltb l (b % 64)) Bad (Value (leb 64 (b % 128)) (b % 64) 1)
+unfolding readVarInt
+read-alone l b r h k =
+    let n = signedCount l - 1 in
+    let e : signedCount l ≡ suc n = omega (arith, signed-some l) in
+    let o : signedCount (b % 64) ≡ 1 = omega (arith, signed-some (b % 64), signed-shortest 0 (b % 64) (omega arith)) in
+    ap (λ (x : ℕ). ifShortest (leb 64 (b % 128)) (scanFrom l x 0 0 (unsign b ∷ r))) e
+    ∙ ap (ifShortest (leb 64 (b % 128))) (scan-last l n 0 0 (unsign b) (b % 64) r (omega arith) (omega arith))
+    ∙ go o (ltb l (b % 64))
+  where
+    go : signedCount (b % 64) ≡ 1 → (t : Bool) → ifShortest (leb 64 (b % 128)) (cond t found.Bad (found.Value (b % 64) (0 + 1))) ≡ cond t Bad (Value (leb 64 (b % 128)) (b % 64) 1)
+    go o true = refl
+    go o false = rw (eq-eqb (signedCount (b % 64)) 1 o)
+
+pub read-first : (l b : ℕ) (r : List ℕ) → b < 128 → readVarInt l (b ∷ r) ≡ ifShortest (leb 64 (b % 128)) (scanFrom l (signedCount l - 1) (b % 64) 1 r)
+unfolding readVarInt
+read-first l b r h =
+    let n = signedCount l - 1 in
+    let e : signedCount l ≡ suc n = omega (arith, signed-some l) in
+    ap (λ (x : ℕ). ifShortest (leb 64 (b % 128)) (scanFrom l x 0 0 (unsign b ∷ r))) e
+    ∙ ap (ifShortest (leb 64 (b % 128))) (scan-more l n 0 0 (unsign b) (b % 64) r (omega arith) (omega arith))
+
+-- ten bytes hold 64 bits and a sign
+pub signed-u64 : (m : ℕ) → m < 2 ^ 64 → signedCount m ≤ 10
+signed-u64 m h = signed-shortest 9 m (omega arith)
 
 -- ---- the number of bytes from the leading zeros
 

@@ -59,7 +59,14 @@ pub fn put_u64(buf: &mut [u8], at: usize, value: u64) -> usize
 
 // What the groups from index `at` on give, below the `taken` groups of `start`; there may be `most`
 // groups in all.
-pub(crate) fn read_groups(s: &[u8], at: usize, start: u64, taken: usize, most: usize, limit: u64) -> VarUIntRead
+pub(crate) fn read_groups(
+    s: &[u8],
+    at: usize,
+    start: u64,
+    taken: usize,
+    most: usize,
+    limit: u64,
+) -> VarUIntRead
     requires { ⌜ (start < 128 ^ taken) × (most ≤ 10) ⌝ }
     ensures { λ r. ⌜ r ≡ scanFrom limit (most - taken) start taken (drop at (now (s .entry))) ⌝ }
 {

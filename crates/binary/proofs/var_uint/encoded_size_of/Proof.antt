@@ -1,3 +1,4 @@
+-- `var_uint::encoded_size_of` meets its contract. Assumes nothing.
 use borrow.Author.Needs.{needs}
 use native.Mathlib.Omega.{arith}
 use lib.Count.{leading-le}
