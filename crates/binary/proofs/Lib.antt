@@ -1,0 +1,4 @@
+pub mod Groups
+pub mod VarUInts
+pub mod VarInts
+pub mod Stored

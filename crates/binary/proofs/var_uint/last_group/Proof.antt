@@ -1,0 +1,31 @@
+-- `var_uint::last_group` meets its contract. Assumes nothing.
+use borrow.Author.Needs.{needs}
+use borrow.Author.Tests.{lt-ltb, le-ltb}
+use Prim.Native.Nat.{_+_, _*_, _%_, _<_}
+use native.Mathlib.Omega.{arith}
+use Rattle.binary.proofs.var_uint.last_group.Statement.{statement}
+use Rattle.binary.proofs.var_uint.last_group.Tie as tie
+
+returns : tie.Need-returns
+returns c =
+    let a = c .before .args in
+    let h : a .limit < a .v * 128 + a .b % 128 = omega arith in
+    rw (lt-ltb (a .limit) (a .v * 128 + a .b % 128) h)
+
+mul-w : tie.Need-mul-w
+mul-w c = search needs
+
+cast-w : tie.Need-cast-w
+cast-w c = search needs
+
+add-w : tie.Need-add-w
+add-w c = search needs
+
+returns-2 : tie.Need-returns-2
+returns-2 c = rw (lt-ltb _ _ (c .if2 .taken))
+
+returns-3 : tie.Need-returns-3
+returns-3 c = rw (le-ltb _ _ (c .if2 .left))
+
+pub last-group-spec : {M : Type 1} → statement M
+last-group-spec = tie.close (tie.spec returns mul-w cast-w add-w returns-2 returns-3)

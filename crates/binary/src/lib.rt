@@ -1,0 +1,3 @@
+// Numbers of Ion binary, written into lent buffers and read from lent bytes.
+pub mod var_int;
+pub mod var_uint;
