@@ -1,4 +1,5 @@
 pub mod Groups
 pub mod VarUInts
 pub mod VarInts
+pub mod Ints
 pub mod Stored
