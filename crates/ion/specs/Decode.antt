@@ -16,6 +16,7 @@ use Rattle.ion.specs.Fraction.{scale}
 use Rattle.ion.specs.Accepted.{timeIn}
 use Rattle.ion.specs.Utc.{withTime}
 use Rattle.ion.specs.declared.Fields.{Fields}
+use Rattle.ion.specs.declared.Body.{Body}
 use Rattle.ion.specs.declared.offset.Offset.{Offset}
 use Rattle.ion.specs.declared.offset.Offset.the-variants.{Unknown, Known}
 use Rattle.ion.specs.declared.Timestamp.{Timestamp}
@@ -79,12 +80,7 @@ unfoldable pub decodeFraction : List ℕ → Decoded (ℕ × ℕ)
 decodeFraction [] = found (0, 0)
 decodeFraction (b ∷ s) = fractionFrom (b ∷ s) (readVarInt 63 (b ∷ s))
 
--- ---- the whole body: an offset, UTC fields and a coefficient
-
-pub record Body : Type 0 where
-  pub offset : Offset
-  pub utc : Fields
-  pub coefficient : ℕ
+-- ---- the whole body
 
 abbrev pub firstValues : List ℕ
 firstValues = 0 ∷ 1 ∷ 1 ∷ 0 ∷ 0 ∷ 0 ∷ []

@@ -8,8 +8,9 @@ use Rattle.ion.specs.Refusal.{inputEnds, firstByteRefused, bodyRefused}
 use Rattle.ion.specs.Pair.{noStamp}
 use Rattle.ion.specs.Check.{checkOf}
 use Rattle.ion.specs.Value.{bodyOf}
-use Rattle.ion.specs.Decode.{Decoded, found, nothing, Body, decodeBody, pairFrom}
+use Rattle.ion.specs.Decode.{Decoded, found, nothing, decodeBody, pairFrom}
 use Rattle.ion.specs.declared.Timestamp.{Timestamp}
+use Rattle.ion.specs.declared.Body.{Body}
 use Rattle.ion.specs.declared.Read.{Read}
 
 abbrev pub refusedReading : ℕ → Read

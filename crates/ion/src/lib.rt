@@ -146,7 +146,14 @@ pub struct Read {
     pub taken: usize,
 }
 
-// ---- what the readers of single numbers find
+// ---- what the readers of parts of a value find
+
+// The parts of a value's body: an offset, UTC fields, and the coefficient of the fraction.
+pub struct Body {
+    pub offset: Offset,
+    pub utc: Fields,
+    pub coefficient: u64,
+}
 
 // A value with the number of its bytes; the end of the input inside it; or no shortest form of a
 // number within the limit.
