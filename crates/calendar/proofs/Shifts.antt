@@ -1,10 +1,10 @@
 -- A date and time moved by z minutes counts z minutes more, and the opposite move undoes it. Assumes nothing.
-use mathlib.Core.Path.{_≡_, ap, _∙_}
+use mathlib.Core.Path.{_≡_, sym, ap, _∙_}
 use Prim.Native.Nat.{ℕ, zero, suc, _+_, _*_, _≤_, _<_}
 use native.Mathlib.Decide.{decLe}
 use native.Mathlib.Omega.{arith}
 use lib.Dec.{lit<}
-use lib.IntN.{ℤ, pos, negsuc, natAbs, negℤ, _+ℤ_}
+use lib.IntN.{ℤ, pos, negsuc, natAbs, negℤ, _+ℤ_, negℤ-negℤ}
 use Rattle.integers.specs.Floor.{floorDiv, _plus_}
 use Rattle.integers.proofs.Parts.{up, down, apart, add-parts, floor-parts, floor-mod-lt, plus-parts, neg-parts, natAbs-parts, parts-eq}
 use Rattle.ion.specs.Calendar.{dayNumber, IsDate, nextDay, prevDay, yearLength}
@@ -78,6 +78,10 @@ shift-back t z p l =
     let k : down (negℤ z) ≤ minuteNumber (shifted t z) = omega (arith, e, f, neg-parts z) in
     minute-number-inj (shifted (shifted t z) (negℤ z)) t (shifted-is (shifted t z) (negℤ z) s k) p
     (shifted-minutes (shifted t z) (negℤ z) s k ∙ omega (arith, e, f, plus-parts (minuteNumber (shifted t z)) (negℤ z) k, neg-parts z))
+
+-- against an offset and with it again
+pub shift-forth : (t : DateTime) (z : ℤ) → IsDateTime t → down (negℤ z) ≤ minuteNumber t → shifted (shifted t (negℤ z)) z ≡ t
+shift-forth t z p l = ap (shifted (shifted t (negℤ z))) (sym (negℤ-negℤ z)) ∙ shift-back t (negℤ z) p l
 
 -- ---- the years 1 to 9999 leave room for an offset on both sides
 

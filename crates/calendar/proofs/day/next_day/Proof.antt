@@ -8,20 +8,11 @@ use Rattle.calendar.proofs.Months.{picker-length}
 use Rattle.calendar.proofs.day.next_day.Statement.{statement}
 use Rattle.calendar.proofs.day.next_day.Tie as tie
 
-days-in-month-requires : tie.Need-days-in-month-requires
-days-in-month-requires c κs = search needs
-
-add-t4 : tie.Need-add-t4
-add-t4 c = search needs
-
 returns : tie.Need-returns
 returns c =
     let t = c .before .before .before .before .args .date in
     let h : t .day < monthLength (t .year) (t .month) = omega (arith, picker-length (t .year) (t .month) (omega arith)) in
     simp (lt-ltb _ _ h)
-
-add-t5 : tie.Need-add-t5
-add-t5 c = search needs
 
 returns-2 : tie.Need-returns-2
 returns-2 c =
@@ -29,9 +20,6 @@ returns-2 c =
     let h : monthLength (t .year) (t .month) ≤ t .day = omega (arith, picker-length (t .year) (t .month) (omega arith)) in
     let k : t .month < 12 = omega arith in
     simp (le-ltb _ _ h, lt-ltb _ _ k)
-
-add-t6 : tie.Need-add-t6
-add-t6 c = search needs
 
 returns-3 : tie.Need-returns-3
 returns-3 c =
@@ -42,4 +30,4 @@ returns-3 c =
 
 pub next-day-spec : {M : Type 1} → statement M
 next-day-spec =
-    tie.close (tie.spec days-in-month-requires add-t4 returns add-t5 returns-2 add-t6 returns-3)
+    tie.close (tie.spec (λ c κs. search needs) (λ c. search needs) returns (λ c. search needs) returns-2 (λ c. search needs) returns-3)

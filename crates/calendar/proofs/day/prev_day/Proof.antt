@@ -9,20 +9,8 @@ use Rattle.calendar.proofs.Months.{picker-length}
 use Rattle.calendar.proofs.day.prev_day.Statement.{statement}
 use Rattle.calendar.proofs.day.prev_day.Tie as tie
 
-sub-t4 : tie.Need-sub-t4
-sub-t4 c = search needs
-
 returns : tie.Need-returns
 returns c = simp (lt-ltb _ _ (c .before .if1 .taken))
-
-sub-days-in-month : tie.Need-sub-days-in-month
-sub-days-in-month c = search needs
-
-days-in-month-requires : tie.Need-days-in-month-requires
-days-in-month-requires c κs = search needs
-
-sub-t5 : tie.Need-sub-t5
-sub-t5 c = search needs
 
 returns-2 : tie.Need-returns-2
 returns-2 c =
@@ -40,9 +28,6 @@ returns-3 c =
     let e : t .year ≡ 0 = omega arith in
     simp (le-ltb _ _ h, le-ltb _ _ k, e)
 
-sub-t6 : tie.Need-sub-t6
-sub-t6 c = search needs
-
 returns-4 : tie.Need-returns-4
 returns-4 c =
     let t = c .before .before .before .before .before .before .before .args .date in
@@ -52,4 +37,4 @@ returns-4 c =
 
 pub prev-day-spec : {M : Type 1} → statement M
 prev-day-spec =
-    tie.close (tie.spec sub-t4 returns sub-days-in-month days-in-month-requires sub-t5 returns-2 returns-3 sub-t6 returns-4)
+    tie.close (tie.spec (λ c. search needs) returns (λ c. search needs) (λ c κs. search needs) (λ c. search needs) returns-2 returns-3 (λ c. search needs) returns-4)

@@ -30,18 +30,12 @@ same t (pos zero) h e = refl
 same t (pos (suc n)) h e = absurd (omega (arith, ltb-false 0 (suc n) e))
 same t (negsuc n) h e = absurd (true≢false h)
 
-prev-day-requires : tie.Need-prev-day-requires
-prev-day-requires c κs = search needs
-
 returns : tie.Need-returns
 returns c =
     let a = c .before .before .args in
     let f = c .before .before .fits .days in
     let h = c .before .if1 .taken in
     c .prev-day .ensures ∙ sym (back (a .date) (a .days) (c .before .before .pre .0) (simp toZ-ofZ at h))
-
-next-day-requires : tie.Need-next-day-requires
-next-day-requires c κs = search needs
 
 returns-2 : tie.Need-returns-2
 returns-2 c =
@@ -59,4 +53,4 @@ returns-3 c =
     sym (same (a .date) (a .days) (simp toZ-ofZ at h) (simp toZ-ofZ at k))
 
 pub add-days-spec : {M : Type 1} → statement M
-add-days-spec = tie.close (tie.spec prev-day-requires returns next-day-requires returns-2 returns-3)
+add-days-spec = tie.close (tie.spec (λ c κs. search needs) returns (λ c κs. search needs) returns-2 returns-3)
