@@ -47,14 +47,21 @@ minute-number-inj t u p q e =
     λ i. record { year = d i .year; month = d i .month; day = d i .day; hour = h i; minute = k i }
 
 module _ (t : DateTime) (z : ℤ) (p : IsDateTime t) (l : down z ≤ minuteNumber t) where
+  abbrev time : ℕ
+  time = t .hour * 60 + t .minute
+
   abbrev total : ℤ
-  total = pos (t .hour * 60 + t .minute) +ℤ z
+  total = pos time +ℤ z
+
+  abbrev days : ℤ
+  days = floorDiv total 1440
 
   -- the days to go back are there, where the minutes are
-  moved : IsDate (addDays (dateOf t) (floorDiv total 1440)) × (dayNumber (addDays (dateOf t) (floorDiv total 1440)) + down (floorDiv total 1440) ≡ dayNumber (dateOf t) + up (floorDiv total 1440))
-  moved =
-      add-days (dateOf t) (floorDiv total 1440) (p .date)
-      (omega (arith, add-parts (pos (t .hour * 60 + t .minute)) z, floor-parts total 1440 (lit< tt), apart (floorDiv total 1440), floor-mod-lt total 1440 (lit< tt)))
+  enough : down days ≤ dayNumber (dateOf t)
+  enough = omega (arith, add-parts (pos time) z, floor-parts total 1440 (lit< tt), apart days, floor-mod-lt total 1440 (lit< tt))
+
+  moved : IsDate (addDays (dateOf t) days) × (dayNumber (addDays (dateOf t) days) + down days ≡ dayNumber (dateOf t) + up days)
+  moved = add-days (dateOf t) days (p .date) enough
 
   pub shifted-is : IsDateTime (shifted t z)
   shifted-is =
@@ -62,7 +69,7 @@ module _ (t : DateTime) (z : ℤ) (p : IsDateTime t) (l : down z ≤ minuteNumbe
       record { date = moved .0; hours = omega arith; minutes = omega arith }
 
   pub shifted-minutes : minuteNumber (shifted t z) ≡ minuteNumber t plus z
-  shifted-minutes = omega (arith, add-parts (pos (t .hour * 60 + t .minute)) z, floor-parts total 1440 (lit< tt), moved .1, plus-parts (minuteNumber t) z l)
+  shifted-minutes = omega (arith, add-parts (pos time) z, floor-parts total 1440 (lit< tt), moved .1, plus-parts (minuteNumber t) z l)
 
   -- the same in ℤ
   pub shifted-minutes-ℤ : pos (minuteNumber (shifted t z)) ≡ pos (minuteNumber t) +ℤ z

@@ -1,11 +1,11 @@
 -- `calendar::days_in_month` meets its contract. Assumes nothing.
-use mathlib.Core.Path.{sym, ap, _∙_}
+use mathlib.Core.Path.{_≡_, sym, ap, _∙_}
 use mathlib.Core.Bool.{Bool}
 use Prim.Native.Nat.{_+_}
 use native.Mathlib.Omega.{arith}
 use borrow.Author.Needs.{needs}
 use borrow.Author.Tests.{lt-ltb, le-ltb}
-use Rattle.ion.specs.Calendar.{leapDay}
+use Rattle.ion.specs.Calendar.{isLeap, leapDay, daysInMonth}
 use Rattle.calendar.proofs.Months.{fixed-length, february, no-month}
 use Rattle.calendar.proofs.month.days_in_month.Statement.{statement}
 use Rattle.calendar.proofs.month.days_in_month.Tie as tie
@@ -20,13 +20,17 @@ returns-3 : tie.Need-returns-3
 returns-3 c = simp (le-ltb _ _ (c .before .before .if1 .left)) (sym (fixed-length _ _ (c .before .if2 .left) (c .if3 .taken)))
 
 -- February's length, with the leap day that `is_leap` told
+told : (c : tie.After-is-leap) → let a = c .before .before .before .before .args in 28 + leapDay (c .is-leap .result) ≡ daysInMonth (a .year) (a .month)
+told c =
+    let a = c .before .before .before .before .args in
+    let e : a .month ≡ 2 = omega arith in
+    simp (le-ltb _ _ (c .before .before .before .if1 .left)) (ap (λ (l : Bool). 28 + leapDay l) (c .is-leap .ensures) ∙ sym (february (isLeap (a .year)) (a .month) e))
+
 returns-4 : tie.Need-returns-4
-returns-4 c =
-    simp (le-ltb _ _ (c .before .before .before .before .if1 .left)) (ap (λ (l : Bool). 28 + leapDay l) (sym (c .if4 .taken) ∙ c .before .is-leap .ensures) ∙ sym (february _ _ (omega arith)))
+returns-4 c = ap (λ (l : Bool). 28 + leapDay l) (sym (c .if4 .taken)) ∙ told (c .before)
 
 returns-5 : tie.Need-returns-5
-returns-5 c =
-    simp (le-ltb _ _ (c .before .before .before .before .if1 .left)) (ap (λ (l : Bool). 28 + leapDay l) (sym (c .if4 .left) ∙ c .before .is-leap .ensures) ∙ sym (february _ _ (omega arith)))
+returns-5 c = ap (λ (l : Bool). 28 + leapDay l) (sym (c .if4 .left)) ∙ told (c .before)
 
 pub days-in-month-spec : {M : Type 1} → statement M
 days-in-month-spec = tie.close (tie.spec returns returns-2 (λ c. search needs) (λ c. search needs) returns-3 (λ c κs. search needs) returns-4 returns-5)

@@ -62,23 +62,24 @@ module _ (c : tie.After-minutes) where
   total : toZ w32 (ofZ w32 (toZ w32 time +ℤ toZ w32 (ofZ w32 (c .minutes .result)))) ≡ pos time +ℤ offset
   total = rw sum (toZ-ofZ fits)
 
+  at-most-a-day : natAbs (floorDiv (pos time +ℤ offset) 1440) ≤ 1
+  at-most-a-day = one-day time offset time-below (c .before .before .before .pre .2)
+
 add-total-2 : tie.Need-add-total-2
 add-total-2 c = rw (sum c) (fits c)
 
 from-midnight-requires : tie.Need-from-midnight-requires
 from-midnight-requires c κs =
-    let b = c .before in
-    let p = b .before .before .before .pre in
-    rw (total b) (one-day (time b) (offset b) (time-below b) (p .2), p .0, p .1 .date)
+    let p = c .before .before .before .before .pre in
+    rw (total (c .before)) (at-most-a-day (c .before), p .0, p .1 .date)
 
 returns : tie.Need-returns
 returns c = let e = c .from-midnight .ensures in rw (total (c .before .before)) at e
 
 from-midnight-requires-2 : tie.Need-from-midnight-requires-2
 from-midnight-requires-2 c κs =
-    let b = c .before .before in
-    let p = b .before .before .before .pre in
-    rw (total b) (one-day (time b) (offset b) (time-below b) (p .2), p .0, p .1 .date)
+    let p = c .before .before .before .before .before .pre in
+    rw (total (c .before .before)) (at-most-a-day (c .before .before), p .0, p .1 .date)
 
 returns-2 : tie.Need-returns-2
 returns-2 c = let e = c .from-midnight2 .ensures in rw (total (c .before .before .before)) at e
