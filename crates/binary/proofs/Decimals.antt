@@ -1,14 +1,14 @@
 -- The bytes of a decimal: those of its exponent and of its coefficient, none for zero with exponent 0. Assumes nothing.
-use mathlib.Core.Path.{_≡_, refl, sym, ap, _∙_}
+use mathlib.Core.Path.{_≡_, refl, ap, _∙_}
 use mathlib.Core.Bool.{Bool, true, false, _&&_}
-use mathlib.Core.List.{List, [], _++_}
-use Prim.Native.Nat.{ℕ, zero, suc, _+_, _≤_}
+use mathlib.Core.List.{[], _++_}
+use Prim.Native.Nat.{ℕ, suc, _+_}
 use native.Mathlib.Omega.{arith}
 use borrow.Author.Tests.{ne-eqb}
 use lib.Dec.{eqb}
-use lib.IntN.{ℤ, pos, negsuc, natAbs}
+use lib.IntN.{ℤ, negsuc, natAbs}
 use lib.ListN.{length, length-append}
-use Rattle.ion.specs.VarInt.{isNegative, signedCount, signed, varint}
+use Rattle.ion.specs.VarInt.{isNegative, signedCount, varint}
 use Rattle.ion.specs.Int.{intCount, int}
 use Rattle.ion.specs.Decimal.{decimalBytes}
 use Rattle.binary.proofs.VarInts.{length-signed}

@@ -5,7 +5,7 @@ use mathlib.Core.List.{List}
 use Prim.Native.Nat.{ℕ}
 use lib.ListN.{length}
 use mir.Facts.{toZ-ofZ}
-use Rattle.ion.specs.Output.{over, wrote, roomFor, Run}
+use Rattle.ion.specs.Output.{wrote, roomFor, Run}
 use Rattle.ion.specs.Decimal.{decimalBytes}
 use Rattle.output.proofs.Stores.{has-room, refused-writing, written}
 use Rattle.binary.proofs.decimal.encode_decimal.Statement.{statement}
