@@ -12,10 +12,9 @@ use lib.Count.{leadingZeros, leading-length}
 use lib.Dec.{eqb, ltb, lit<}
 use lib.ListN.{length, getD}
 use lib.Pow.{pow-add, pow-mono}
-use Rattle.places.specs.Places.{plain, placesOn, places, count, valueFrom}
+use Rattle.places.specs.Places.{plain, placesOn, places, valueFrom}
 use Rattle.places.proofs.Laws.{length-places, count-zero, count-holds, count-least, count-unique, value-places}
 use Rattle.ion.specs.Int.{intCount, int, bigEndian, readInt}
-use Rattle.ion.specs.declared.IntRead.{IntRead}
 use Rattle.ion.specs.declared.IntRead.the-variants.{Value, Bad}
 
 pub length-int : (m : ℕ) → length (int m) ≡ intCount m
