@@ -1,0 +1,1 @@
+// Timestamps: building, the packed check, field reads, the UTC form.
