@@ -1,13 +1,11 @@
 -- What the checks 1 to 9 leave, both ways. Assumes nothing.
 use mathlib.Core.Path.{_≡_, refl, ap}
 use mathlib.Core.Bool.{Bool, true, false, not, and-eq-true-iff}
-use Prim.Native.Nat.{ℕ, _+_, _^_, _≤_, _<_}
+use Prim.Native.Nat.{ℕ, _^_, _≤_, _<_}
 use native.Mathlib.Omega.{arith}
 use lib.Dec.{leb, ltb}
 use lib.IntN.{ℤ, natAbs}
 use borrow.Author.Tests.{lt-ltb, le-ltb, lt-leb, ltb-false, leb-false, ltb-true, leb-true, le-leb, not-false}
-use Rattle.integers.specs.Floor.{_plus_}
-use Rattle.integers.proofs.Parts.{apart, natAbs-parts, plus-parts}
 use Rattle.ion.specs.Offset.{WithinDay, isOffset, rawOf}
 use Rattle.ion.specs.Build.{precisionNumber, ranges, outside, offsetIs, isYear}
 use Rattle.ion.specs.Accepted.{InBounds}
@@ -18,6 +16,7 @@ use Rattle.ion.specs.declared.TimestampPrecision.{TimestampPrecision}
 use Rattle.ion.specs.declared.TimestampPrecision.the-variants.{Year, Month, Day, HourAndMinute, Second}
 use Rattle.ion.specs.declared.offset.Offset.{Offset}
 use Rattle.ion.specs.declared.offset.Offset.the-variants as offset
+use Rattle.ion.proofs.Offsets.{raw-below}
 use Rattle.timestamp.proofs.Checks.{AllPass}
 
 offset-is : (z : ℤ) → not (isOffset z) ≡ false → natAbs z < 1440
@@ -72,7 +71,7 @@ precision-le Second = omega arith
 -- the packed word's number of an offset of less than a day
 pub raw-lt : (o : Offset) → WithinDay o → rawOf o .0 < 2880
 raw-lt offset.Unknown h = omega arith
-raw-lt (offset.Known m) h = omega (arith, natAbs-parts (m .0), plus-parts 1440 (m .0) (omega (arith, natAbs-parts (m .0))))
+raw-lt (offset.Known m) h = raw-below (m .0) h .1
 
 -- a local year, both ways
 pub year-is : (y : ℕ) → isYear y ≡ true → (1 ≤ y) × (y ≤ 9999)

@@ -1,7 +1,8 @@
 -- Whatever the stages give is staged. Assumes nothing.
 use mathlib.Core.Path.{_≡_, refl, sym, ap, subst}
-use Prim.Native.Nat.{ℕ, _<_}
+use Prim.Native.Nat.{ℕ, _%_, _^_, _<_}
 use native.Mathlib.Omega.{arith}
+use Rattle.ion.specs.Fraction.{scale}
 use Rattle.ion.specs.Build.{precisionNumber}
 use Rattle.ion.specs.Accepted.{Staged}
 use Rattle.ion.specs.Stages.{fieldsAre, withYear, withMonth, withDay, withHour, withHourAndMinute, withMinute, withSecond, withFraction, withOffset, Stage, hasYear, hasMonth, hasDay, hasHour, hasMinute, hasSeconds, hasFraction, hasOffset, Offsets, Gives}
@@ -11,7 +12,11 @@ use Rattle.ion.specs.declared.BuilderOffset.{BuilderOffset}
 use Rattle.ion.specs.declared.BuilderOffset.the-variants.{Unknown, FromLocalFields, FromUtcFields}
 use Rattle.ion.specs.declared.TimestampPrecision.{TimestampPrecision}
 use Rattle.ion.specs.declared.TimestampPrecision.the-variants.{Year, Month, Day, HourAndMinute, Second}
-use Rattle.timestamp.proofs.Multiples.{Cut, fraction-cut}
+use Rattle.fraction.proofs.Multiples.{multiple}
+
+-- a fraction has no more than its digits, or is no fraction
+abbrev Cut : ℕ → ℕ → Type 0
+Cut a digits = a < 10 ^ 18 → a % scale digits ≡ 0
 
 -- the fields at a stage: those not given have their first values
 At : Stage → BuilderFields → Type 0
@@ -72,7 +77,7 @@ at-stage (stages.hour g h) = ap (λ (f : BuilderFields). withHour f h) (at-stage
 at-stage (stages.both g h m) = ap (λ (f : BuilderFields). withHourAndMinute f h m) (at-stage g)
 at-stage (stages.minute g m) = ap (λ (f : BuilderFields). withMinute f m) (at-stage g)
 at-stage (stages.second g s) = ap (λ (f : BuilderFields). withSecond f s) (at-stage g)
-at-stage (stages.fraction {x = x} g k) = (ap (λ (f : BuilderFields). withFraction f x) (at-stage g), fraction-cut k)
+at-stage (stages.fraction {x = x} g k) = (ap (λ (f : BuilderFields). withFraction f x) (at-stage g), multiple k)
 at-stage (stages.local {f = f} o g m) = offset-staged f (FromLocalFields m) o (at-stage g)
 at-stage (stages.utc {f = f} o g m) = offset-staged f (FromUtcFields m) o (at-stage g)
 
@@ -102,4 +107,3 @@ staged-at hasOffset f s = s
 
 pub gives-staged : {t : Stage} {f : BuilderFields} → Gives t f → Staged f
 gives-staged {t} {f} g = staged-at t f (at-stage g)
-
