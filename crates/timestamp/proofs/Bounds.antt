@@ -1,0 +1,81 @@
+-- What the checks 1 to 9 leave, both ways. Assumes nothing.
+use mathlib.Core.Path.{_≡_, refl, ap}
+use mathlib.Core.Bool.{Bool, true, false, not, and-eq-true-iff}
+use Prim.Native.Nat.{ℕ, _^_, _≤_, _<_}
+use native.Mathlib.Omega.{arith}
+use lib.Dec.{leb, ltb}
+use lib.IntN.{ℤ, natAbs}
+use borrow.Author.Tests.{lt-ltb, le-ltb, lt-leb, ltb-false, leb-false, ltb-true, leb-true, le-leb, not-false}
+use Rattle.ion.specs.Offset.{WithinDay, isOffset, rawOf}
+use Rattle.ion.specs.Build.{precisionNumber, ranges, outside, offsetIs, isYear}
+use Rattle.ion.specs.Accepted.{InBounds}
+use Rattle.ion.specs.declared.BuilderFields.{BuilderFields}
+use Rattle.ion.specs.declared.BuilderOffset.{BuilderOffset}
+use Rattle.ion.specs.declared.BuilderOffset.the-variants.{Unknown, FromLocalFields, FromUtcFields}
+use Rattle.ion.specs.declared.TimestampPrecision.{TimestampPrecision}
+use Rattle.ion.specs.declared.TimestampPrecision.the-variants.{Year, Month, Day, HourAndMinute, Second}
+use Rattle.ion.specs.declared.offset.Offset.{Offset}
+use Rattle.ion.specs.declared.offset.Offset.the-variants as offset
+use Rattle.ion.proofs.Offsets.{raw-below}
+use Rattle.timestamp.proofs.Checks.{AllPass}
+
+offset-is : (z : ℤ) → not (isOffset z) ≡ false → natAbs z < 1440
+offset-is z e = ltb-true (natAbs z) 1440 (not-false (isOffset z) e)
+
+is-offset : (z : ℤ) → natAbs z < 1440 → not (isOffset z) ≡ false
+is-offset z h = ap not (lt-ltb (natAbs z) 1440 h)
+
+within : (o : BuilderOffset) → outside o ≡ false → WithinDay (offsetIs o)
+within Unknown e = tt
+within (FromLocalFields m) e = offset-is (m .0) e
+within (FromUtcFields m) e = offset-is (m .0) e
+
+not-outside : (o : BuilderOffset) → WithinDay (offsetIs o) → outside o ≡ false
+not-outside Unknown h = refl
+not-outside (FromLocalFields m) h = is-offset (m .0) h
+not-outside (FromUtcFields m) h = is-offset (m .0) h
+
+pub in-bounds : (f : BuilderFields) → AllPass (ranges f) → InBounds f
+in-bounds f (a, (y, (mo, (d, (h, (mi, (s, (n, (o, e))))))))) =
+    record {
+      attoseconds = leb-false (10 ^ 18) (f .attoseconds) a;
+      year = ltb-false 9999 (f .year) y;
+      month = ltb-false 12 (f .month) mo;
+      day = ltb-false 31 (f .day) d;
+      hour = ltb-false 23 (f .hour) h;
+      minute = ltb-false 59 (f .minute) mi;
+      second = ltb-false 59 (f .second) s;
+      digits = ltb-false 18 (f .digits) n;
+      offset = within (f .offset) o;
+    }
+
+pub bounds-pass : (f : BuilderFields) → InBounds f → AllPass (ranges f)
+bounds-pass f b =
+    let a = lt-leb (10 ^ 18) (f .attoseconds) (b .attoseconds) in
+    let y = le-ltb 9999 (f .year) (b .year) in
+    let mo = le-ltb 12 (f .month) (b .month) in
+    let d = le-ltb 31 (f .day) (b .day) in
+    let h = le-ltb 23 (f .hour) (b .hour) in
+    let mi = le-ltb 59 (f .minute) (b .minute) in
+    let s = le-ltb 59 (f .second) (b .second) in
+    let n = le-ltb 18 (f .digits) (b .digits) in
+    (a, (y, (mo, (d, (h, (mi, (s, (n, (not-outside (f .offset) (b .offset), tt)))))))))
+
+pub precision-le : (p : TimestampPrecision) → precisionNumber p ≤ 4
+precision-le Year = omega arith
+precision-le Month = omega arith
+precision-le Day = omega arith
+precision-le HourAndMinute = omega arith
+precision-le Second = omega arith
+
+-- the packed word's number of an offset of less than a day
+pub raw-lt : (o : Offset) → WithinDay o → rawOf o .0 < 2880
+raw-lt offset.Unknown h = omega arith
+raw-lt (offset.Known m) h = raw-below (m .0) h .1
+
+-- a local year, both ways
+pub year-is : (y : ℕ) → isYear y ≡ true → (1 ≤ y) × (y ≤ 9999)
+year-is y e = let k = and-eq-true-iff (leb 1 y) (leb y 9999) .0 e in (leb-true 1 y (k .0), leb-true y 9999 (k .1))
+
+pub is-year : (y : ℕ) → 1 ≤ y → y ≤ 9999 → isYear y ≡ true
+is-year y h k = simp (le-leb 1 y h, le-leb y 9999 k)

@@ -1,0 +1,14 @@
+pub mod Checks
+pub mod Bounds
+pub mod Routes
+pub mod Rebuilt
+pub mod Staging
+pub mod Room
+pub mod Times
+pub mod Valid
+pub mod Given
+pub mod Accepts
+pub mod Decides
+pub mod Tested
+pub mod Told
+pub mod UtcForm

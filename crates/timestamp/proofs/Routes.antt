@@ -1,0 +1,34 @@
+-- The build, by its parts: the checks 1 to 9, then those of the route. Assumes nothing.
+use mathlib.Core.Path.{_≡_, ap, _∙_}
+use Prim.Native.Nat.{ℕ}
+use borrow.Author.Tests.{ne-eqb}
+use Rattle.ion.specs.Build.{firstOf, ranges, routeChecks, localTime, offsetIs, pairAt, refusal, answer, numberOf, pairOf, buildOf}
+use Rattle.ion.specs.declared.BuilderFields.{BuilderFields}
+use Rattle.ion.specs.declared.BuilderOffset.{BuilderOffset}
+use Rattle.ion.specs.declared.BuilderOffset.the-variants.{Unknown, FromLocalFields, FromUtcFields}
+use Rattle.ion.specs.declared.Built.{Built}
+use Rattle.timestamp.proofs.Checks.{AllPass, Numbered, zero-pass, pass-next, fail-first}
+
+pub ranges-numbered : (f : BuilderFields) → Numbered (ranges f)
+ranges-numbered f = (tt, (tt, (tt, (tt, (tt, (tt, (tt, (tt, (tt, tt)))))))))
+
+pub ranges-pass : (f : BuilderFields) → firstOf (ranges f) ≡ 0 → AllPass (ranges f)
+ranges-pass f e = zero-pass (ranges f) (ranges-numbered f) e
+
+pub route-numbered : (f : BuilderFields) (o : BuilderOffset) → Numbered (routeChecks f o)
+route-numbered f Unknown = (tt, (tt, tt))
+route-numbered f (FromLocalFields m) = (tt, (tt, tt))
+route-numbered f (FromUtcFields m) = (tt, (tt, tt))
+
+-- what the route gives
+abbrev pub routed : BuilderFields → BuilderOffset → Built
+routed f o = answer (firstOf (routeChecks f o)) (pairAt f (localTime f o) (offsetIs o))
+
+pub build-routed : (f : BuilderFields) → AllPass (ranges f) → buildOf f ≡ routed f (f .offset)
+unfolding numberOf pairOf
+build-routed f h = ap (λ (n : ℕ). answer n (pairOf f)) (pass-next (ranges f) (routeChecks f (f .offset)) h)
+
+pub build-refused : (f : BuilderFields) → (firstOf (ranges f) ≡ 0 → ⊥) → buildOf f ≡ refusal (firstOf (ranges f))
+unfolding numberOf
+build-refused f h =
+    ap (λ (n : ℕ). answer n (pairOf f)) (fail-first (ranges f) (routeChecks f (f .offset)) h) ∙ simp (ne-eqb (firstOf (ranges f)) 0 h)

@@ -1,0 +1,51 @@
+-- The local time of fields that pass the builder's checks. Assumes nothing.
+use mathlib.Core.Path.{_≡_}
+use mathlib.Core.Bool.{true}
+use Prim.Native.Nat.{ℕ, _≤_, _<_}
+use native.Mathlib.Omega.{arith}
+use borrow.Author.Tests.{not-false}
+use Rattle.ion.specs.Shift.{IsDateTime, dateOf}
+use Rattle.ion.specs.Offset.{WithinDay}
+use Rattle.ion.specs.Word.{InRange}
+use Rattle.ion.specs.Build.{isYear, isDay, offsetIs, routeChecks, localChecks, givenTime, movedTime, localTime, packedOf}
+use Rattle.ion.specs.Accepted.{InBounds}
+use Rattle.ion.specs.declared.DateTime.{DateTime}
+use Rattle.ion.specs.declared.BuilderFields.{BuilderFields}
+use Rattle.ion.specs.declared.BuilderOffset.{BuilderOffset}
+use Rattle.ion.specs.declared.BuilderOffset.the-variants.{Unknown, FromLocalFields, FromUtcFields}
+use Rattle.ion.specs.declared.offset.Offset.{Offset}
+use Rattle.calendar.proofs.Dates.{is-date, month-of, day-of}
+use Rattle.calendar.proofs.Shifts.{shifted-is}
+use Rattle.timestamp.proofs.Checks.{AllPass}
+use Rattle.timestamp.proofs.Room.{moved-room}
+use Rattle.timestamp.proofs.Bounds.{precision-le, raw-lt, year-is}
+
+-- fields in bounds with such a calendar day are a date and a time
+pub time-is : (f : BuilderFields) → InBounds f → isDay f ≡ true → IsDateTime (givenTime f)
+time-is f b e =
+    record { date = is-date (dateOf (givenTime f)) (omega (arith, b .year)) e; hours = omega (arith, b .hour); minutes = omega (arith, b .minute) }
+
+-- a date and a time in a year that fits have room in the word
+pub time-in-range : (f : BuilderFields) (t : DateTime) (o : Offset) → InBounds f → IsDateTime t → t .year ≤ 10000 → WithinDay o → InRange (packedOf f t o)
+time-in-range f t o b p y w =
+    omega (arith, month-of (dateOf t) (p .date), day-of (dateOf t) (p .date), p .hours, p .minutes, b .second, b .digits, precision-le (f .precision), raw-lt o w)
+
+-- a date and a time in a year from 1 to 9999
+pub record IsLocal (t : DateTime) : Type 0 where
+  pub time : IsDateTime t
+  pub from-year : 1 ≤ t .year
+  pub to-year : t .year ≤ 9999
+
+given-is : (f : BuilderFields) → InBounds f → AllPass (localChecks f) → IsLocal (givenTime f)
+given-is f b h =
+    let y = year-is (f .year) (not-false (isYear (f .year)) (h .0)) in
+    record { time = time-is f b (not-false (isDay f) (h .1 .0)); from-year = y .0; to-year = y .1 }
+
+-- the local time, on either route
+pub local-is : (f : BuilderFields) (o : BuilderOffset) → InBounds f → WithinDay (offsetIs o) → AllPass (routeChecks f o) → IsLocal (localTime f o)
+local-is f Unknown b w h = given-is f b h
+local-is f (FromLocalFields m) b w h = given-is f b h
+local-is f (FromUtcFields m) b w h =
+    let p = time-is f b (not-false (isDay f) (h .0)) in
+    let y = year-is (movedTime f m .year) (not-false (isYear (movedTime f m .year)) (h .1 .0)) in
+    record { time = shifted-is (givenTime f) (m .0) p (moved-room (givenTime f) (m .0) p w (y .0)); from-year = y .0; to-year = y .1 }

@@ -1,0 +1,78 @@
+-- The UTC form of valid fields: a date and a time in a year from 0 to 10000, which fits the word. Assumes nothing.
+use mathlib.Core.Path.{_≡_, refl, sym, ap, _∙_}
+use Prim.Native.Nat.{ℕ, _≤_, _<_}
+use native.Mathlib.Omega.{arith}
+use lib.IntN.{ℤ, negℤ, natAbs}
+use Rattle.integers.proofs.Parts.{natAbs-parts, neg-parts}
+use Rattle.ion.specs.Shift.{IsDateTime}
+use Rattle.ion.specs.Offset.{WithinDay, rawOf, offsetOf}
+use Rattle.ion.specs.Word.{InRange}
+use Rattle.ion.specs.Accepted.{Valid, dateIn, timeIn}
+use Rattle.ion.specs.Utc.{utcBy, utcFields}
+use Rattle.ion.specs.declared.Fields.{Fields}
+use Rattle.ion.specs.declared.offset.RawOffset.{RawOffset}
+use Rattle.ion.specs.declared.offset.Offset.{Offset}
+use Rattle.ion.specs.declared.offset.Offset.the-variants.{Unknown, Known}
+use Rattle.ion.proofs.Offsets.{back-and-raw}
+use Rattle.calendar.proofs.Dates.{month-of, day-of}
+use Rattle.calendar.proofs.Shifts.{shifted-is, shift-room, shifted-year}
+use Rattle.timestamp.proofs.Valid.{valid-time, valid-offset}
+
+-- the opposite of less than a day is less than a day
+pub negated-within : (z : ℤ) → natAbs z < 1440 → natAbs (negℤ z) < 1440
+negated-within z h = omega (arith, natAbs-parts z, natAbs-parts (negℤ z), neg-parts z)
+
+-- what the offset leaves of the fields, and what it makes of the others
+pub record IsUtc (f g : Fields) : Type 0 where
+  pub time : IsDateTime (timeIn g)
+  pub year : g .year ≤ 10000
+  pub second : g .second ≡ f .second
+  pub precision : g .precision ≡ f .precision
+  pub digits : g .digits ≡ f .digits
+  pub offset : g .offset .0 ≡ 0
+
+moved : {f : Fields} {a : ℕ} (o : Offset) → offsetOf (f .offset) ≡ o → Valid f a → WithinDay o → IsUtc f (utcBy o f)
+moved {f} Unknown e v w =
+    record {
+      time = valid-time v;
+      year = omega (arith, v .to-year);
+      second = refl;
+      precision = refl;
+      digits = refl;
+      offset = ap (λ (r : RawOffset). r .0) (sym (back-and-raw (f .offset) (v .offset)) ∙ ap rawOf e);
+    }
+moved {f} (Known m) e v w =
+    let n = negated-within (m .0) w in
+    let p = valid-time v in
+    record {
+      time = shifted-is (timeIn f) (negℤ (m .0)) p (shift-room (timeIn f) (negℤ (m .0)) (v .from-year) n);
+      year = shifted-year (timeIn f) (negℤ (m .0)) p (v .from-year) (v .to-year) n;
+      second = refl;
+      precision = refl;
+      digits = refl;
+      offset = refl;
+    }
+
+pub utc-is : {f : Fields} {a : ℕ} → Valid f a → IsUtc f (utcFields f)
+unfolding utcFields
+utc-is {f} v = moved (offsetOf (f .offset)) refl v (valid-offset v)
+
+pub utc-in-range : {f : Fields} {a : ℕ} → Valid f a → InRange (utcFields f)
+utc-in-range {f} v =
+    let g = utcFields f in
+    let u = utc-is v in
+    omega (
+      arith,
+      u .year,
+      month-of (dateIn g) (u .time .date),
+      day-of (dateIn g) (u .time .date),
+      u .time .hours,
+      u .time .minutes,
+      u .second,
+      v .second,
+      u .precision,
+      v .precision,
+      u .digits,
+      v .digits,
+      u .offset,
+    )

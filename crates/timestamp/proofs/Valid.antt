@@ -1,0 +1,91 @@
+-- What the builder gives is valid, and valid fields make an accepted pair. Assumes nothing.
+use mathlib.Core.Path.{_≡_, sym, ap, subst, _∙_}
+use mathlib.Core.List.{_++_}
+use Prim.Native.Nat.{ℕ, _%_, _^_, _<_}
+use native.Mathlib.Nat.{mod-eq-of-lt}
+use native.Mathlib.Omega.{arith}
+use Rattle.ion.specs.Shift.{IsDateTime}
+use Rattle.ion.specs.Offset.{WithinDay, rawOf, offsetOf}
+use Rattle.ion.specs.Word.{InRange, wordOf, fieldsOf}
+use Rattle.ion.specs.Pair.{wordIn, pairIs}
+use Rattle.ion.specs.Fraction.{scale}
+use Rattle.ion.specs.Build.{precisionNumber, ranges, offsetIs, routeChecks, givenTime, localTime, packedOf, numberOf, pairOf}
+use Rattle.ion.specs.Accepted.{Staged, Valid, Accepted, dateIn, timeIn}
+use Rattle.ion.specs.declared.DateTime.{DateTime}
+use Rattle.ion.specs.declared.Fields.{Fields}
+use Rattle.ion.specs.declared.BuilderFields.{BuilderFields}
+use Rattle.ion.specs.declared.BuilderOffset.{BuilderOffset}
+use Rattle.ion.specs.declared.Timestamp.{Timestamp}
+use Rattle.calendar.proofs.Dates.{month-of, day-of}
+use Rattle.ion.proofs.Offsets.{back-within}
+use Rattle.packed.proofs.Words.{unpack-pack, pack-unpack, word-lt, word-low}
+use Rattle.timestamp.proofs.Checks.{zero-pass, pass-left, pass-right, numbered-append}
+use Rattle.timestamp.proofs.Bounds.{in-bounds, precision-le, raw-lt}
+use Rattle.timestamp.proofs.Routes.{ranges-numbered, route-numbered}
+use Rattle.timestamp.proofs.Times.{local-is}
+
+-- ---- what the builder gives
+
+-- below precision 3 no offset moves the fields
+unmoved : (b : BuilderFields) → Staged b → precisionNumber (b .precision) < 3 → localTime b (b .offset) ≡ givenTime b
+unmoved b s k = ap (localTime b) (s .offset k)
+
+pub build-valid : (b : BuilderFields) → Staged b → numberOf b ≡ 0 → Valid (packedOf b (localTime b (b .offset)) (offsetIs (b .offset))) (b .attoseconds)
+unfolding numberOf
+build-valid b s e =
+    let r = routeChecks b (b .offset) in
+    let h = zero-pass (ranges b ++ r) (numbered-append (ranges b) r (ranges-numbered b) (route-numbered b (b .offset))) e in
+    let i = in-bounds b (pass-left (ranges b) r h) in
+    let l = local-is b (b .offset) i (i .offset) (pass-right (ranges b) r h) in
+    record {
+      from-year = l .from-year;
+      to-year = l .to-year;
+      date = l .time .date;
+      hour = omega (arith, l .time .hours);
+      minute = omega (arith, l .time .minutes);
+      second = i .second;
+      precision = precision-le (b .precision);
+      digits = i .digits;
+      offset = raw-lt (offsetIs (b .offset)) (i .offset);
+      attoseconds = i .attoseconds;
+      multiple = s .multiple (i .attoseconds);
+      no-month = λ k. ap (λ (t : DateTime). t .month) (unmoved b s (omega arith)) ∙ s .month k;
+      no-day = λ k. ap (λ (t : DateTime). t .day) (unmoved b s (omega arith)) ∙ s .day k;
+      no-hour = λ k. ap (λ (t : DateTime). t .hour) (unmoved b s k) ∙ s .hour k;
+      no-minute = λ k. ap (λ (t : DateTime). t .minute) (unmoved b s k) ∙ s .minute k;
+      no-offset = λ k. ap (λ (o : BuilderOffset). rawOf (offsetIs o) .0) (s .offset k);
+      no-second = s .second;
+      no-digits = s .digits;
+    }
+
+-- ---- valid fields
+
+pub valid-in-range : {f : Fields} {a : ℕ} → Valid f a → InRange f
+valid-in-range {f} v =
+    omega (arith, v .to-year, month-of (dateIn f) (v .date), day-of (dateIn f) (v .date), v .hour, v .minute, v .second, v .precision, v .digits, v .offset)
+
+-- the date and the time to the minute, and the offset
+pub valid-time : {f : Fields} {a : ℕ} → Valid f a → IsDateTime (timeIn f)
+valid-time v = record { date = v .date; hours = omega (arith, v .hour); minutes = omega (arith, v .minute) }
+
+pub valid-offset : {f : Fields} {a : ℕ} → Valid f a → WithinDay (offsetOf (f .offset))
+valid-offset {f} v = back-within (f .offset) (v .offset)
+
+-- with no digits there is no fraction
+pub no-fraction : {f : Fields} {a : ℕ} → Valid f a → f .digits ≡ 0 → a ≡ 0
+no-fraction {f} {a} v e = sym (mod-eq-of-lt (v .attoseconds)) ∙ ap (λ (d : ℕ). a % scale d) (sym e) ∙ v .multiple
+
+-- ---- accepted pairs
+
+pub valid-accepted : {f : Fields} {a : ℕ} → Valid f a → Accepted (pairIs (wordOf f) a)
+valid-accepted {f} {a} v =
+    let r = valid-in-range v in
+    record { fields = subst (λ (g : Fields). Valid g a) (sym (unpack-pack f r)) v; reserved = word-low f r; fits = word-lt f r }
+
+pub build-accepted : (b : BuilderFields) → Staged b → numberOf b ≡ 0 → Accepted (pairOf b)
+unfolding pairOf
+build-accepted b s e = valid-accepted (build-valid b s e)
+
+-- the word is that of its fields
+pub accepted-word : {s : Timestamp} → Accepted s → wordOf (fieldsOf (wordIn s)) ≡ wordIn s
+accepted-word {s} t = pack-unpack (wordIn s) (t .fits) (t .reserved)

@@ -1,0 +1,51 @@
+-- `timestamp::checking::check_by_building` meets its contract. Assumes nothing.
+use mathlib.Core.Path.{_≡_, sym, ap, subst, _∙_}
+use Prim.Native.Nat.{_≤_, _<_}
+use Rattle.ion.specs.declared.Fields.{Fields}
+use Rattle.ion.specs.Build.{buildOf}
+use Rattle.ion.specs.Check.{rebuilt, sameAs}
+use Rattle.timestamp.proofs.Rebuilt.{check-digits, check-built}
+use borrow.Author.Needs.{needs}
+use Rattle.timestamp.proofs.checking.check_by_building.Statement.{statement}
+use Rattle.timestamp.proofs.checking.check_by_building.Tie as tie
+
+unpack-requires : tie.Need-unpack-requires
+unpack-requires c κs = search needs
+
+refused-requires : tie.Need-refused-requires
+refused-requires c κs = search needs
+
+returns : tie.Need-returns
+returns c =
+    let u = c .before .before in
+    c .refused .ensures ∙ sym (check-digits (u .before .args .s) (subst (λ (f : Fields). 18 < f .digits) (u .unpack .ensures) (c .before .if1 .taken)))
+
+rebuild-requires : tie.Need-rebuild-requires
+rebuild-requires c κs = search needs
+
+build-requires : tie.Need-build-requires
+build-requires c κs = search needs
+
+same-as-requires : tie.Need-same-as-requires
+same-as-requires c κs = search needs
+
+returns-2 : tie.Need-returns-2
+returns-2 c =
+    let e1 = c .before .before .before in
+    let u = e1 .before in
+    let s = u .before .args .s in
+    c .same-as .ensures
+    ∙ ap (sameAs s) (c .before .build .ensures ∙ ap buildOf (c .before .before .rebuild .ensures ∙ ap (λ (f : Fields). rebuilt f (s .attoseconds)) (u .unpack .ensures)))
+    ∙ sym (check-built s (subst (λ (f : Fields). f .digits ≤ 18) (u .unpack .ensures) (e1 .if1 .left)))
+
+pub check-by-building-spec : {M : Type 1} → statement M
+check-by-building-spec =
+    tie.close
+    (tie.spec
+    unpack-requires
+    refused-requires
+    returns
+    rebuild-requires
+    build-requires
+    same-as-requires
+    returns-2)
