@@ -1,0 +1,81 @@
+-- How long the parts of a body are, and its header. Assumes nothing.
+use mathlib.Core.Path.{_≡_, refl, sym, ap, _∙_}
+use mathlib.Core.Bool.{true}
+use mathlib.Core.List.{List, [], _∷_, _++_}
+use Prim.Native.Nat.{ℕ, zero, suc, _+_, _-_, _*_, _%_, _^_, _≤_, _<_}
+use native.Mathlib.Omega.{arith}
+use borrow.Author.Tests.{le-leb, lt-leb}
+use lib.IntN.{natAbs}
+use lib.ListN.{length, take, getD, length-append}
+use Rattle.ion.specs.VarUInt.{groups, varuint, groupCount}
+use Rattle.ion.specs.VarInt.{signed, varint, isNegative}
+use Rattle.ion.specs.Int.{int}
+use Rattle.ion.specs.Offset.{WithinDay}
+use Rattle.ion.specs.Value.{offsetBytes, varuints, fractionBytes, header}
+use Rattle.ion.specs.declared.offset.Offset.{Offset}
+use Rattle.ion.specs.declared.offset.Offset.the-variants.{Unknown, Known}
+use Rattle.binary.proofs.Groups.{groups-one}
+use Rattle.binary.proofs.VarUInts.{count-shortest, count-some, length-varuint}
+use Rattle.binary.proofs.VarInts.{length-signed, signed-shortest, signed-some}
+use Rattle.binary.proofs.Ints.{length-int, int-least}
+use Rattle.timestamp_binary.proofs.DecodeBack.{fraction-bytes}
+
+pub offset-length : (o : Offset) → WithinDay o → length (offsetBytes o) ≤ 2
+unfolding offsetBytes varint
+offset-length Unknown h = omega (arith, length-signed true 0, signed-shortest 1 0 (omega arith))
+offset-length (Known m) h =
+    let n = natAbs (m .0) in
+    omega (arith, length-signed (isNegative (m .0)) n, signed-shortest 1 n (omega arith))
+
+one-byte : (v : ℕ) → v < 128 → length (varuint v) ≤ 1
+one-byte v h = omega (arith, length-varuint v, count-shortest 0 v (omega arith))
+
+two-bytes : (v : ℕ) → v < 16384 → length (varuint v) ≤ 2
+two-bytes v h = omega (arith, length-varuint v, count-shortest 1 v (omega arith))
+
+-- a byte for each number below 128
+short-length : (l : List ℕ) → ((i : ℕ) → getD l i 0 < 128) → length (varuints l) ≤ length l
+unfolding varuints
+short-length [] h = omega arith
+short-length (v ∷ l) h = omega (arith, length-append (varuint v) (varuints l), one-byte v (h 0), short-length l (λ i. h (suc i)))
+
+take-short : (n : ℕ) (l : List ℕ) → ((i : ℕ) → getD l i 0 < 128) → (i : ℕ) → getD (take n l) i 0 < 128
+take-short zero l h i = omega arith
+take-short (suc n) [] h i = omega arith
+take-short (suc n) (v ∷ l) h zero = h 0
+take-short (suc n) (v ∷ l) h (suc i) = take-short n l (λ j. h (suc j)) i
+
+take-length-le : (n : ℕ) (l : List ℕ) → length (take n l) ≤ length l
+take-length-le zero l = omega arith
+take-length-le (suc n) [] = omega arith
+take-length-le (suc n) (v ∷ l) = omega (arith, take-length-le n l)
+
+-- a year of two bytes at most, and the fields after it
+pub fields-length : (n y : ℕ) (l : List ℕ) → y < 16384 → ((i : ℕ) → getD l i 0 < 128) → length (varuints (take n (y ∷ l))) ≤ 2 + length l
+unfolding varuints
+fields-length zero y l h k = omega arith
+fields-length (suc n) y l h k =
+    omega (arith, length-append (varuint y) (varuints (take n l)), two-bytes y h, short-length (take n l) (take-short n l k), take-length-le n l)
+
+pub fraction-length : (d c : ℕ) → d ≤ 18 → c < 10 ^ 18 → length (fractionBytes d c) ≤ 9
+unfolding fractionBytes
+fraction-length zero c h k = omega arith
+fraction-length (suc d) c h k =
+    omega (arith, ap length (fraction-bytes d c), length-append (signed true (suc d)) (int c), length-signed true (suc d), signed-shortest 0 (suc d) (omega arith), length-int c, int-least 8 c (omega arith))
+
+-- ---- the header
+
+pub header-short : (n : ℕ) → n ≤ 13 → header n ≡ (0x60 + n) ∷ []
+unfolding header
+header-short n h = rw (le-leb n 13 h)
+
+one-group : (n : ℕ) → n < 128 → varuint n ≡ (128 + n) ∷ []
+unfolding varuint
+one-group n h =
+    let c : groupCount n ≡ 1 = omega (arith, count-shortest 0 n (omega arith), count-some n) in
+    let e : n % 128 ≡ n = omega arith in
+    ap (λ (k : ℕ). groups k n) c ∙ groups-one n ∙ ap (λ (m : ℕ). (128 + m) ∷ []) e
+
+pub header-long : (n : ℕ) → 13 < n → n < 128 → header n ≡ 0x6e ∷ (0x80 + n) ∷ []
+unfolding header
+header-long n h l = rw (lt-leb n 13 h) (ap (λ (t : List ℕ). 0x6e ∷ t) (one-group n l))

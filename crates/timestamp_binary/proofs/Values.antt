@@ -1,0 +1,148 @@
+-- The value of an accepted timestamp is read back, whatever follows it, and whatever is read begins with such a value.
+-- Assumes nothing.
+use mathlib.Core.Path.{_≡_, refl, sym, ap, ap₂, _∙_}
+use mathlib.Core.Bool.{Bool, true, false, cond, _&&_, _||_, and-eq-true-iff, false≢true}
+use mathlib.Core.List.{List, [], _∷_, _++_, append-assoc}
+use Prim.Native.Nat.{ℕ, zero, suc, _+_, _-_, _*_, _/_, _^_, _≤_, _<_}
+use native.Mathlib.Nat.{div-le-self}
+use native.Mathlib.Omega.{arith}
+use native.Mathlib.Decide.{decLe}
+use borrow.Author.Tests.{lt-ltb, le-ltb, ltb-true, ltb-false, eq-eqb, ne-eqb, eqb-true, eqb-false}
+use lib.Dec.{eqb, ltb, lit<}
+use lib.ListN.{length, take, drop, getD, length-append, length-take, take-append-drop}
+use lib.Seq.{take-at, length-take-le}
+use Rattle.ion.specs.Refusal.{inputEnds, firstByteRefused, bodyRefused}
+use Rattle.ion.specs.Calendar.{isLeap}
+use Rattle.ion.specs.Pair.{wordIn, pairIs}
+use Rattle.ion.specs.Word.{wordOf, fieldsOf}
+use Rattle.ion.specs.Fraction.{scale}
+use Rattle.ion.specs.Build.{accepted}
+use Rattle.ion.specs.Check.{checkOf}
+use Rattle.ion.specs.Accepted.{Valid, Accepted}
+use Rattle.ion.specs.Value.{offsetBytes, varuints, fieldList, fieldCount, fractionBytes, bodyFrom, bodyOf, header, valueOf}
+use Rattle.ion.specs.Decode.{Decoded, found, nothing, decodeBody, pairFrom, localBy}
+use Rattle.ion.specs.ReadValue.{refusedReading, acceptedReading, same, isBodyOf, takenAs, readBody, readAfter, readLength, readOf}
+use Rattle.ion.specs.declared.Fields.{Fields}
+use Rattle.ion.specs.declared.Body.{Body}
+use Rattle.ion.specs.declared.Built.{Built}
+use Rattle.ion.specs.declared.Timestamp.{Timestamp}
+use Rattle.ion.specs.declared.Read.{Read}
+use Rattle.calendar.proofs.Months.{month-to-twelve, month-most}
+use Rattle.timestamp.proofs.Accepts.{check-accepts, check-gives}
+use Rattle.timestamp.proofs.Valid.{accepted-word}
+use Rattle.timestamp_binary.specs.BodyFor.{bodyFor}
+use Rattle.timestamp_binary.specs.Encodable.{Encodable}
+use Rattle.timestamp_binary.specs.Acceptable.{Acceptable}
+use Rattle.timestamp_binary.proofs.DecodeBack.{body-back}
+use Rattle.timestamp_binary.proofs.UtcBody.{encodable, acceptable, local-fields, attoseconds-back, utc-digits}
+use Rattle.timestamp_binary.proofs.Lengths.{offset-length, fields-length, fraction-length, header-short, header-long}
+
+-- ---- the test of two lists
+
+pub same-refl : (s : List ℕ) → same s s ≡ true
+unfolding same
+same-refl [] = refl
+same-refl (a ∷ s) = rw (eq-eqb a a refl, same-refl s)
+
+pub same-is : (s t : List ℕ) → same s t ≡ true → s ≡ t
+unfolding same
+same-is [] [] e = refl
+same-is [] (b ∷ t) e = absurd (false≢true e)
+same-is (a ∷ s) [] e = absurd (false≢true e)
+same-is (a ∷ s) (b ∷ t) e =
+    let p = and-eq-true-iff (eqb a b) (same s t) .0 e in
+    ap₂ _∷_ (eqb-true a b (p .0)) (same-is s t (p .1))
+
+-- ---- the body of an accepted timestamp
+
+-- the fields after the year, each below 128
+short-fields : (u : Fields) → u .month ≤ 12 → u .day ≤ 31 → u .hour < 24 → u .minute < 60 → u .second ≤ 59
+    → (i : ℕ) → getD (u .month ∷ u .day ∷ u .hour ∷ u .minute ∷ u .second ∷ []) i 0 < 128
+short-fields u m d h n s zero = omega arith
+short-fields u m d h n s (suc zero) = omega arith
+short-fields u m d h n s (suc (suc zero)) = omega arith
+short-fields u m d h n s (suc (suc (suc zero))) = omega arith
+short-fields u m d h n s (suc (suc (suc (suc zero)))) = omega arith
+short-fields u m d h n s (suc (suc (suc (suc (suc i))))) = lit< tt
+
+module _ (s : Timestamp) (p : Accepted s) where
+  pub pair-back : pairFrom (bodyFor (fieldsOf (wordIn s)) (s .attoseconds)) ≡ s
+  unfolding pairFrom
+  pair-back =
+      let f = fieldsOf (wordIn s) in
+      let a = s .attoseconds in
+      let v = p .fields in
+      let w = ap wordOf (local-fields f a v) ∙ accepted-word p in
+      let c = ap (λ (d : ℕ). a / scale (f .digits) * scale d) (utc-digits f a v) ∙ attoseconds-back f a v in
+      ap₂ pairIs w c
+
+  pub decode-value : decodeBody (bodyOf s) ≡ found (bodyFor (fieldsOf (wordIn s)) (s .attoseconds))
+  unfolding bodyOf
+  decode-value = body-back (bodyFor (fieldsOf (wordIn s)) (s .attoseconds)) (encodable (fieldsOf (wordIn s)) (s .attoseconds) (p .fields))
+
+  number-zero : checkOf s .number ≡ 0
+  number-zero = ap (λ (b : Built). b .number) (check-accepts s p)
+
+  pub body-read : (n : ℕ) → readBody n (bodyOf s) ≡ acceptedReading s n
+  unfolding readBody isBodyOf
+  body-read n =
+      ap (takenAs n (bodyOf s)) decode-value
+      ∙ rw pair-back (rw (number-zero, same-refl (bodyOf s)))
+
+  -- no body is longer than 18 bytes
+  pub body-length : length (bodyOf s) ≤ 18
+  unfolding bodyOf bodyFrom
+  body-length =
+      let f = fieldsOf (wordIn s) in
+      let a = s .attoseconds in
+      let v = p .fields in
+      let x = bodyFor f a in
+      let u = x .utc in
+      let e = encodable f a v in
+      let q = acceptable f a v in
+      let d = q .time .date in
+      let leap = isLeap (u .year) in
+      let short = short-fields u (month-to-twelve leap (u .month) (omega (arith, d .first, d .last))) (omega (arith, d .last, month-most leap (u .month))) (q .time .hours) (q .time .minutes) (q .second) in
+      let l = take (fieldCount (u .precision)) (fieldList u) in
+      let r = fractionBytes (u .digits) (x .coefficient) in
+      omega (
+        arith,
+        length-append (offsetBytes (x .offset)) (varuints l ++ r),
+        length-append (varuints l) r,
+        offset-length (x .offset) (e .within-day),
+        fields-length (fieldCount (u .precision)) (u .year) (u .month ∷ u .day ∷ u .hour ∷ u .minute ∷ u .second ∷ []) (e .small 0) short,
+        fraction-length (u .digits) (x .coefficient) (q .digits) (omega (arith, div-le-self a (scale (f .digits)), v .attoseconds)),
+      )
+
+  -- ---- the value, and whatever follows it
+
+  after-back : (k n : ℕ) (r : List ℕ) → n ≡ length (bodyOf s) → readAfter k n (bodyOf s ++ r) ≡ acceptedReading s (k + n)
+  unfolding readAfter
+  after-back k n r e =
+      rw (le-ltb (length (bodyOf s ++ r)) n (omega (arith, e, length-append (bodyOf s) r)), take-at (bodyOf s) r n (sym e)) (body-read (k + n))
+
+  short-back : (r : List ℕ) → length (bodyOf s) ≤ 13 → readOf (valueOf s ++ r) ≡ acceptedReading s (length (valueOf s))
+  unfolding readOf valueOf
+  short-back r h =
+      let n = length (bodyOf s) in
+      let e : 0x60 + n - 0x60 ≡ n = omega arith in
+      rw (header-short n h)
+      (rw (le-ltb (0x60 + n) 0x60 (omega arith), le-ltb 0x6e (0x60 + n) (omega arith), ne-eqb (0x60 + n) 0x6e (omega arith), e)
+      (after-back 1 n r refl ∙ ap (acceptedReading s) (let z : 1 + n ≡ suc n = omega arith in z)))
+
+  long-back : (r : List ℕ) → 13 < length (bodyOf s) → readOf (valueOf s ++ r) ≡ acceptedReading s (length (valueOf s))
+  unfolding readOf readLength valueOf
+  long-back r h =
+      let n = length (bodyOf s) in
+      let e : 0x80 + n - 0x80 ≡ n = omega arith in
+      rw (header-long n h (omega (arith, body-length)))
+      (rw (le-ltb (0x80 + n) 0x8e (omega arith), le-ltb 0x92 (0x80 + n) (omega (arith, body-length)), e)
+      (after-back 2 n r refl ∙ ap (acceptedReading s) (let z : 2 + n ≡ suc (suc n) = omega arith in z)))
+
+  -- the writer's bytes are read back, with whatever bytes after them
+  pub value-back : (r : List ℕ) → readOf (valueOf s ++ r) ≡ acceptedReading s (length (valueOf s))
+  value-back r = go (decLe (length (bodyOf s)) 13)
+    where
+      go : Dec (length (bodyOf s) ≤ 13) → readOf (valueOf s ++ r) ≡ acceptedReading s (length (valueOf s))
+      go (yes h) = short-back r h
+      go (no h) = long-back r (omega (arith, h))

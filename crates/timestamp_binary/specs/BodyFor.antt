@@ -1,0 +1,10 @@
+-- The parts of the body of a timestamp's fields. Assumes nothing.
+use Prim.Native.Nat.{ℕ, _/_}
+use Rattle.ion.specs.Offset.{offsetOf}
+use Rattle.ion.specs.Fraction.{scale}
+use Rattle.ion.specs.Utc.{utcFields}
+use Rattle.ion.specs.declared.Fields.{Fields}
+use Rattle.ion.specs.declared.Body.{Body}
+
+abbrev pub bodyFor : Fields → ℕ → Body
+bodyFor f a = record { offset = offsetOf (f .offset); utc = utcFields f; coefficient = a / scale (f .digits) }

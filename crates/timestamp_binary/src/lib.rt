@@ -1,0 +1,1 @@
+// Values of timestamps in Ion binary, written and read.
