@@ -4,7 +4,7 @@ use mathlib.Core.Path.{_≡_, refl, sym, ap, ap₂, _∙_}
 use mathlib.Core.Bool.{Bool, true, false, cond}
 use mathlib.Core.List.{List, [], _∷_, _++_}
 use Prim.Native.Nat.{ℕ, zero, suc, _+_, _-_, _*_, _/_, _%_, _^_, _≤_, _<_}
-use native.Mathlib.Nat.{pow-zero, pow-suc, pow-succ', add-zero, add-suc, suc-add, zero-add, mod-eq-of-lt, div-div-eq-div-mul}
+use native.Mathlib.Nat.{pow-zero, pow-suc, pow-succ', mod-eq-of-lt, div-div-eq-div-mul}
 use native.Mathlib.Numerals.{add-one}
 use native.Mathlib.Omega.{arith}
 use borrow.Author.Tests.{le-leb, lt-leb, ltb-false, leb-true, leb-false}
@@ -13,8 +13,7 @@ use lib.ListN.{length, drop, getD}
 use Rattle.places.specs.Places.{plain, placesOn, valueFrom}
 use Rattle.places.proofs.Laws.{places-append, places-add, value-on}
 use Rattle.ion.specs.VarUInt.{groups, upTo, scanFrom}
-use Rattle.ion.specs.declared.VarUIntRead.{VarUIntRead}
-use Rattle.ion.specs.declared.VarUIntRead.the-variants.{Value, Cut, Bad}
+use Rattle.ion.specs.declared.VarUIntRead.the-variants.{Value, Bad}
 
 -- ---- the groups are the places of base 128, of which the last is marked
 

@@ -2,11 +2,11 @@
 -- beginning of another. Assumes nothing.
 use mathlib.Core.Path.{_≡_, refl, sym, ap, ap₂, _∙_}
 use mathlib.Core.Bool.{Bool, true, false, cond}
-use mathlib.Core.List.{List, [], _∷_, _++_, append-assoc}
+use mathlib.Core.List.{List, [], _∷_, _++_}
 use Prim.Native.Nat.{ℕ, zero, suc, _+_, _-_, _*_, _/_, _%_, _^_, _≤_, _<_}
 use native.Mathlib.Nat.{pow-suc, pow-succ', div-lt-iff-lt-mul, one-le-pow}
 use native.Mathlib.Omega.{arith}
-use borrow.Author.Tests.{le-ltb, lt-ltb, le-leb, lt-leb, eq-eqb, leb-true, leb-false, eqb-true}
+use borrow.Author.Tests.{le-ltb, le-leb, lt-leb, eq-eqb, leb-true, leb-false, eqb-true}
 use lib.Count.{leadingZeros, leading-length}
 use lib.Dec.{eqb, leb, ltb, lit<}
 use lib.IntN.{ℤ, natAbs}
@@ -15,12 +15,11 @@ use mir.Val.{SFits, ofZ, toZ}
 use mir.Facts.{toZ-ofZ}
 use lib.ListN.{length, drop, getD}
 use lib.Seq.{drop-append-seam}
-use Rattle.places.specs.Places.{plain, placesOn}
-use Rattle.ion.specs.VarUInt.{groups, groupCount, upTo, scanFrom}
+use Rattle.places.specs.Places.{placesOn}
+use Rattle.ion.specs.VarUInt.{groups, scanFrom}
 use Rattle.ion.specs.VarInt.{isNegative, signedCount, signFirst, signed, varint, ifShortest, unsign, readVarInt}
 use Rattle.ion.specs.declared.VarUIntRead.{VarUIntRead}
 use Rattle.ion.specs.declared.VarUIntRead.the-variants as found
-use Rattle.ion.specs.declared.VarIntRead.{VarIntRead}
 use Rattle.ion.specs.declared.VarIntRead.the-variants.{Value, Cut, Bad}
 use Rattle.binary.proofs.Groups.{groups-one, groups-more, length-groups, scan-more, scan-last, scan-groups, Scanned, scan-gives}
 use Rattle.binary.proofs.VarUInts.{count-held, count-shortest, count-some, count-monotone, bits-count}

@@ -4,20 +4,19 @@ use mathlib.Core.Path.{_≡_, refl, sym, ap, _∙_}
 use mathlib.Core.Bool.{Bool, true, false, cond}
 use mathlib.Core.List.{List, [], _∷_, _++_}
 use Prim.Native.Nat.{ℕ, zero, suc, _+_, _-_, _*_, _/_, _%_, _^_, _≤_, _<_}
-use native.Mathlib.Nat.{pow-zero, pow-suc, pow-succ', le-trans, lt-of-le-of-lt, mod-eq-of-lt, div-eq-of-lt, div-lt-iff-lt-mul, le-div-iff-mul-le, one-le-pow, zero-add}
+use native.Mathlib.Nat.{pow-suc, pow-succ', lt-of-le-of-lt, div-eq-of-lt, div-lt-iff-lt-mul, le-div-iff-mul-le, one-le-pow}
 use native.Mathlib.Decide.{decLt}
 use native.Mathlib.Omega.{arith}
-use borrow.Author.Tests.{lt-ltb, le-ltb, eq-eqb, ne-eqb, ltb-false}
+use borrow.Author.Tests.{lt-ltb, le-ltb, ne-eqb, ltb-false}
 use lib.Count.{leadingZeros, leading-length}
 use lib.Dec.{eqb, ltb, lit<}
 use lib.ListN.{length, drop, getD, length-append}
 use lib.Pow.{pow-add, pow-mono}
 use lib.Seq.{drop-append-seam}
-use Rattle.places.specs.Places.{plain, placesOn, placeCount}
+use Rattle.places.specs.Places.{placesOn, placeCount}
 use Rattle.places.proofs.Laws.{held, fewest, place-unique}
-use Rattle.ion.specs.VarUInt.{groups, groupCount, varuint, upTo, scanFrom, zeroFirst, readVarUInt}
-use Rattle.ion.specs.declared.VarUIntRead.{VarUIntRead}
-use Rattle.ion.specs.declared.VarUIntRead.the-variants.{Value, Cut, Bad}
+use Rattle.ion.specs.VarUInt.{groups, groupCount, varuint, scanFrom, zeroFirst, readVarUInt}
+use Rattle.ion.specs.declared.VarUIntRead.the-variants.{Value, Bad}
 use Rattle.binary.proofs.Groups.{groups-one, groups-more, length-groups, scan-groups, Scanned, scan-gives}
 
 -- ---- how many groups a number has: its groups hold it, and no fewer do

@@ -17,6 +17,7 @@ pub struct Parts {
     pub magnitude: u64,
 }
 
+// The sign and the size of `value`, of the lowest i64 too.
 pub fn parts_of(value: i64) -> Parts
     ensures { λ r. ⌜ (r .negative ≡ isNegative value) × (r .magnitude ≡ natAbs value) ⌝ }
 {
@@ -89,9 +90,9 @@ pub fn put_parts(buf: &mut [u8], at: usize, p: Parts) -> usize
     requires { ⌜ at + signedCount (p .magnitude) ≤ length (now buf) ⌝ }
     ensures { λ r. ⌜ Run (now (buf .entry)) at (signed (p .negative) (p .magnitude)) (now (buf .exit)) r ⌝ }
 {
-    let n = encoded_size_of(p.magnitude);
-    put_signed(buf, at, n, p);
-    at + n
+    let size = encoded_size_of(p.magnitude);
+    put_signed(buf, at, size, p);
+    at + size
 }
 
 // As `write_i64` where there is room, for a writer that goes on from the index that is returned.

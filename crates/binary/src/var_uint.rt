@@ -52,9 +52,9 @@ pub fn put_u64(buf: &mut [u8], at: usize, value: u64) -> usize
     requires { ⌜ at + groupCount value ≤ length (now buf) ⌝ }
     ensures { λ r. ⌜ Run (now (buf .entry)) at (varuint value) (now (buf .exit)) r ⌝ }
 {
-    let n = encoded_size_of(value);
-    put_groups(buf, at, n, value);
-    at + n
+    let size = encoded_size_of(value);
+    put_groups(buf, at, size, value);
+    at + size
 }
 
 // What the groups from index `at` on give, below the `taken` groups of `start`; there may be `most`
@@ -81,6 +81,7 @@ pub(crate) fn read_groups(
         if 128 <= b {
             return last_group(v, b, k + 1, limit);
         }
+        // Without this return `v` would get a tenth group, for which 64 bits have no room.
         k += 1;
         if k == most {
             return VarUIntRead::Bad;

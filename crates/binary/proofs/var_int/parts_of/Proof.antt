@@ -1,14 +1,14 @@
 -- `var_int::parts_of` meets its contract: below 0 the number one nearer to 0 is negated, so that the lowest is too. Assumes nothing.
-use mathlib.Core.Path.{_≡_, refl, ap, _∙_}
+use mathlib.Core.Path.{_≡_, refl}
 use mathlib.Core.Bool.{true, false}
-use Prim.Native.Nat.{ℕ, _+_, _-_, _^_, _≤_, _<_}
+use Prim.Native.Nat.{_-_, _^_, _≤_, _<_}
 use native.Mathlib.Omega.{arith}
-use lib.IntN.{ℤ, pos, negsuc, natAbs, negℤ, _+ℤ_, _-ℤ_}
+use lib.IntN.{ℤ, pos, negsuc, natAbs, _+ℤ_, _-ℤ_}
 use lib.Signed.{ltZ}
 use mir.Syntax.{w64}
 use mir.Val.{SFits}
 use mir.Facts.{toZ-ofZ}
-use Rattle.integers.proofs.Parts.{Gives, to-unsigned, may-cast, gives-fits, up, down, apart, natAbs-parts, add-parts, sub-parts, lt-parts, ge-parts, parts-fit, fit-parts}
+use Rattle.integers.proofs.Parts.{Gives, to-unsigned, may-cast, gives-fits, apart, natAbs-parts, add-parts, sub-parts, lt-parts, ge-parts, parts-fit, fit-parts}
 use Rattle.ion.specs.VarInt.{isNegative}
 use Rattle.binary.proofs.var_int.parts_of.Statement.{statement}
 use Rattle.binary.proofs.var_int.parts_of.Tie as tie

@@ -1,14 +1,14 @@
 -- `var_int::read_i64` meets its contract. Assumes nothing.
 use borrow.Author.Needs.{needs}
 use borrow.Author.Tests.{lt-ltb, le-ltb, eq-eqb, ne-eqb}
-use mathlib.Core.Path.{_≡_, refl, sym, ap, ap₂, _∙_}
+use mathlib.Core.Path.{_≡_, sym, ap, ap₂, _∙_}
 use mathlib.Core.Bool.{cond}
 use mathlib.Core.List.{_∷_}
 use Prim.Native.Nat.{ℕ, suc, _-_, _%_}
 use native.Mathlib.Numerals.{add-one}
 use native.Mathlib.Omega.{arith}
 use lib.Dec.{leb, ltb}
-use lib.ListN.{length, drop, getD, drop-of-length-le}
+use lib.ListN.{drop, getD, drop-of-length-le}
 use lib.Seq.{drop-cons}
 use Rattle.ion.specs.VarUInt.{scanFrom}
 use Rattle.ion.specs.VarInt.{ifShortest, readVarInt}

@@ -1,6 +1,6 @@
 -- `var_uint::put_u64` meets its contract. Assumes nothing.
 use borrow.Author.Needs.{needs}
-use mathlib.Core.Path.{_≡_, sym, ap, _∙_}
+use mathlib.Core.Path.{ap, _∙_}
 use native.Mathlib.Omega.{arith}
 use Rattle.ion.specs.Output.{over}
 use Rattle.binary.proofs.VarUInts.{count-some, groups-varuint, length-varuint}
