@@ -1,0 +1,37 @@
+//! The differences between document 01 and the Rust that a run meets. Each is a line of docs/DIFFERENCES.md. Any other
+//! difference fails the run.
+
+use crate::calls::{Build, Pair, Stage};
+
+#[derive(Clone, Copy, PartialEq, Eq, Debug)]
+pub enum Listed {
+    LargestFromZero,
+    OrderOfUtcForms,
+}
+
+pub const ALL: [(Listed, &str); 2] = [
+    (
+        Listed::LargestFromZero,
+        "month or day 4294967295 counted from 0: the document refuses it with 3 or 4; \
+         the Rust panics (debug) or wraps to 0 (release)",
+    ),
+    (
+        Listed::OrderOfUtcForms,
+        "a UTC form of year 0 or 10000: the document's order refuses it with 11 or 2; the Rust goes on to order it",
+    ),
+];
+
+/// What document 01 reads a field set as in which the largest number is counted from 0: the same counted from 1.
+pub fn largest_from_zero(build: &Build) -> Option<Build> {
+    let month = build.month0 && build.month == u32::MAX && build.stage >= Stage::Month;
+    let day = build.day0 && build.day == u32::MAX && build.stage >= Stage::Day;
+    if !month && !day {
+        return None;
+    }
+    Some(Build { month0: build.month0 && !month, day0: build.day0 && !day, ..*build })
+}
+
+/// Whether a UTC form has a year that the packed check refuses.
+pub fn outside_years(utc_form: Pair) -> bool {
+    matches!(utc_form.word >> 50, 0 | 10_000)
+}

@@ -1,0 +1,219 @@
+//! Libraries with one wrong answer each, document 01's six among them: a run must notice every one.
+
+use super::SHORT;
+use crate::calls::*;
+use crate::compare;
+use crate::model::Model;
+
+#[derive(Clone, Copy, PartialEq, Eq, Debug)]
+enum Fault {
+    /// A reader that answers 13 before looking.
+    ReadsNothing,
+    /// A reader with an invented taken count.
+    TakesMore,
+    /// A builder whose later stages drop their field.
+    DropsTheSecond,
+    /// A writer that writes nothing.
+    WritesNoText,
+    WritesNoValue,
+    /// A builder that accepts no date.
+    RefusesDays,
+    /// An order that is always equal.
+    AlwaysEqual,
+    EqualByPair,
+    OrdersByInstant,
+    IonEqualByInstant,
+    ChecksNothing,
+    /// The UTC form keeps its offset.
+    KeepsTheOffset,
+    ReadsNoOffset,
+    NoSign,
+    /// A writer that goes past its output.
+    WritesPastTheEnd,
+    /// A writer that looks for room before it checks.
+    RoomFirst,
+    NoLastMark,
+    SignOnTheLastByte,
+    NeverWider,
+    NoDayMoved,
+}
+
+const ALL: [Fault; 20] = [
+    Fault::ReadsNothing,
+    Fault::TakesMore,
+    Fault::DropsTheSecond,
+    Fault::WritesNoText,
+    Fault::WritesNoValue,
+    Fault::RefusesDays,
+    Fault::AlwaysEqual,
+    Fault::EqualByPair,
+    Fault::OrdersByInstant,
+    Fault::IonEqualByInstant,
+    Fault::ChecksNothing,
+    Fault::KeepsTheOffset,
+    Fault::ReadsNoOffset,
+    Fault::NoSign,
+    Fault::WritesPastTheEnd,
+    Fault::RoomFirst,
+    Fault::NoLastMark,
+    Fault::SignOnTheLastByte,
+    Fault::NeverWider,
+    Fault::NoDayMoved,
+];
+
+struct Wrong(Fault);
+
+impl Wrong {
+    fn has(&self, fault: Fault) -> bool {
+        self.0 == fault
+    }
+}
+
+impl Library for Wrong {
+    fn name(&self) -> &'static str {
+        "a wrong library"
+    }
+
+    fn build(&self, build: &Build) -> Built {
+        if self.has(Fault::RefusesDays) && build.stage >= Stage::Day {
+            return Built { number: 10, pair: Pair::NONE };
+        }
+        let mut build = *build;
+        if self.has(Fault::DropsTheSecond) {
+            build.second = 0;
+        }
+        Model.build(&build)
+    }
+
+    fn check(&self, pair: Pair) -> Built {
+        match self.0 {
+            Fault::ChecksNothing => Built { number: 0, pair },
+            _ => Model.check(pair),
+        }
+    }
+
+    fn to_utc(&self, pair: Pair) -> Built {
+        let mut utc = Model.to_utc(pair);
+        if self.has(Fault::KeepsTheOffset) {
+            utc.pair.word |= pair.word & 0xFFF0;
+        }
+        utc
+    }
+
+    fn fields(&self, pair: Pair) -> Option<Fields> {
+        let mut fields = Model.fields(pair)?;
+        if self.has(Fault::ReadsNoOffset) {
+            fields.offset = None;
+        }
+        Some(fields)
+    }
+
+    fn cmp(&self, first: Pair, second: Pair) -> Ordered {
+        let mut ordered = Model.cmp(first, second);
+        if self.has(Fault::AlwaysEqual) {
+            ordered.order = 0;
+        }
+        ordered
+    }
+
+    fn eq(&self, first: Pair, second: Pair) -> Compared {
+        match self.0 {
+            Fault::EqualByPair => Model.ion_eq(first, second),
+            _ => Model.eq(first, second),
+        }
+    }
+
+    fn ion_cmp(&self, first: Pair, second: Pair) -> Ordered {
+        match self.0 {
+            Fault::OrdersByInstant => Model.cmp(first, second),
+            _ => Model.ion_cmp(first, second),
+        }
+    }
+
+    fn ion_eq(&self, first: Pair, second: Pair) -> Compared {
+        match self.0 {
+            Fault::IonEqualByInstant => Model.eq(first, second),
+            _ => Model.ion_eq(first, second),
+        }
+    }
+
+    fn distance(&self, first: Pair, second: Pair) -> Distance {
+        let mut distance = Model.distance(first, second);
+        if self.has(Fault::NoSign) {
+            distance.sign = distance.sign.abs();
+        }
+        distance
+    }
+
+    fn text(&self, pair: Pair, buffer: &mut [u8]) -> Written {
+        if self.has(Fault::WritesNoText) {
+            return Written { number: 0, written: 0 };
+        }
+        if self.has(Fault::RoomFirst) && buffer.len() < 5 {
+            return Written { number: 16, written: 0 };
+        }
+        Model.text(pair, buffer)
+    }
+
+    fn value(&self, pair: Pair, buffer: &mut [u8]) -> Written {
+        if self.has(Fault::WritesNoValue) {
+            return Written { number: 0, written: 0 };
+        }
+        let written = Model.value(pair, buffer);
+        if self.has(Fault::WritesPastTheEnd) {
+            if let Some(past) = buffer.get_mut(written.written) {
+                *past = 0;
+            }
+        }
+        written
+    }
+
+    fn read(&self, input: &[u8]) -> Read {
+        let read = Model.read(input);
+        match self.0 {
+            Fault::ReadsNothing => Read { number: 13, pair: Pair::NONE, taken: 0 },
+            Fault::TakesMore if read.number == 0 => Read { taken: input.len() + 1, ..read },
+            _ => read,
+        }
+    }
+
+    fn write_var_uint(&self, value: u64, buffer: &mut [u8]) -> Option<Written> {
+        let written = Model.write_var_uint(value, buffer)?;
+        if self.has(Fault::NoLastMark) && written.written > 0 {
+            buffer[written.written - 1] &= 0x7F;
+        }
+        Some(written)
+    }
+
+    fn write_var_int(&self, value: i64, buffer: &mut [u8]) -> Option<Written> {
+        let written = Model.write_var_int(value, buffer)?;
+        if self.has(Fault::SignOnTheLastByte) && written.written > 1 && value < 0 {
+            buffer[0] &= 0x3F;
+            buffer[written.written - 1] |= 0x40;
+        }
+        Some(written)
+    }
+
+    fn write_zero_padded(&self, value: u64, width: usize, buffer: &mut [u8]) -> Option<Written> {
+        let value = match self.0 {
+            Fault::NeverWider if width < 20 => value % 10u64.pow(width as u32),
+            _ => value,
+        };
+        Model.write_zero_padded(value, width, buffer)
+    }
+
+    fn add_offset_to_utc(&self, time: DateTime, offset: i32) -> Option<DateTime> {
+        let moved = Model.add_offset_to_utc(time, offset)?;
+        Some(match self.0 {
+            Fault::NoDayMoved => DateTime { day: time.day, ..moved },
+            _ => moved,
+        })
+    }
+}
+
+#[test]
+fn each_wrong_library_is_noticed() {
+    for fault in ALL {
+        assert!(!compare::run(&Wrong(fault), SHORT), "{fault:?} was not noticed");
+    }
+}
