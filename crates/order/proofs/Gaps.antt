@@ -9,42 +9,43 @@ use borrow.Author.Tests.{lt-ltb, le-ltb}
 use lib.Dec.{ltb}
 use lib.IntN.{ℤ, pos, negsuc, negℤ, _+ℤ_, _-ℤ_, _*ℤ_}
 use Rattle.integers.specs.Floor.{_plus_}
-use Rattle.integers.proofs.Parts.{up, down, add-parts, sub-parts, mul-parts, neg-parts, plus-parts}
+use Rattle.integers.proofs.Parts.{up, down, add-parts, sub-parts, mul-parts, neg-parts, plus-parts, natAbs-parts}
+use Rattle.ion.specs.Accepted.{timeIn}
+use Rattle.ion.specs.Count.{offsetIn}
 use Rattle.ion.specs.Order.{orderOf, gapOf}
+use Rattle.ion.specs.Shift.{minuteNumber}
+use Rattle.ion.specs.declared.Fields.{Fields}
+use Rattle.calendar.proofs.Shifts.{shift-room}
+use Rattle.order.specs.Local.{IsLocal, utcSeconds, secondsApart}
 
--- minutes and seconds of a local time, and its offset; the offset's minutes can be taken away
-pub record Local : Type 0 where
-  pub minutes : ℕ
-  pub seconds : ℕ
-  pub offset : ℤ
-  pub enough : up offset ≤ minutes
+-- from year 1 on there is an offset's time to take away
+pub enough : (f : Fields) → IsLocal f → down (negℤ (offsetIn f)) ≤ minuteNumber (timeIn f)
+enough f p =
+    let z = offsetIn f in
+    shift-room (timeIn f) (negℤ z) (p .from-year) (omega (arith, p .offset, natAbs-parts z, natAbs-parts (negℤ z), neg-parts z))
 
--- its whole seconds in UTC
-abbrev pub utcSeconds : Local → ℕ
-utcSeconds t = (t .minutes plus negℤ (t .offset)) * 60 + t .seconds
-
--- those of the first less those of the second, as the code finds them
-abbrev pub secondsApart : Local → Local → ℤ
-secondsApart s t =
-    (pos (s .minutes) -ℤ (pos (t .minutes) +ℤ (s .offset -ℤ t .offset))) *ℤ pos 60 +ℤ (pos (s .seconds) -ℤ pos (t .seconds))
-
-pub seconds-apart : (s t : Local) → up (secondsApart s t) + utcSeconds t ≡ utcSeconds s + down (secondsApart s t)
-seconds-apart s t =
-    let d = s .offset -ℤ t .offset in
-    let n = pos (t .minutes) +ℤ d in
-    let m = pos (s .minutes) -ℤ n in
+-- the seconds that the code finds are those of the two UTC counts, nothing cut off
+pub seconds-are : (f g : Fields) → IsLocal f → IsLocal g → up (secondsApart f g) + utcSeconds g ≡ utcSeconds f + down (secondsApart f g)
+seconds-are f g p q =
+    let m = minuteNumber (timeIn f) in
+    let n = minuteNumber (timeIn g) in
+    let o = offsetIn f in
+    let r = offsetIn g in
+    let d = o -ℤ r in
+    let k = pos n +ℤ d in
+    let j = pos m -ℤ k in
     omega (
       arith,
-      sub-parts (s .offset) (t .offset),
-      add-parts (pos (t .minutes)) d,
-      sub-parts (pos (s .minutes)) n,
-      mul-parts m 60,
-      sub-parts (pos (s .seconds)) (pos (t .seconds)),
-      add-parts (m *ℤ pos 60) (pos (s .seconds) -ℤ pos (t .seconds)),
-      neg-parts (s .offset),
-      neg-parts (t .offset),
-      plus-parts (s .minutes) (negℤ (s .offset)) (omega (arith, s .enough, neg-parts (s .offset))),
-      plus-parts (t .minutes) (negℤ (t .offset)) (omega (arith, t .enough, neg-parts (t .offset))),
+      sub-parts o r,
+      add-parts (pos n) d,
+      sub-parts (pos m) k,
+      mul-parts j 60,
+      sub-parts (pos (f .second)) (pos (g .second)),
+      add-parts (j *ℤ pos 60) (pos (f .second) -ℤ pos (g .second)),
+      neg-parts o,
+      neg-parts r,
+      plus-parts m (negℤ o) (enough f p),
+      plus-parts n (negℤ r) (enough g q),
     )
 
 -- ---- counts of whole seconds and attoseconds, K attoseconds a second
