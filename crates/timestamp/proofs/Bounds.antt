@@ -1,9 +1,9 @@
 -- What the checks 1 to 9 leave, both ways. Assumes nothing.
 use mathlib.Core.Path.{_≡_, refl, ap}
-use mathlib.Core.Bool.{Bool, true, false, not, and-eq-true-iff}
+use mathlib.Core.Bool.{true, false, not, and-eq-true-iff}
 use Prim.Native.Nat.{ℕ, _^_, _≤_, _<_}
 use native.Mathlib.Omega.{arith}
-use lib.Dec.{leb, ltb}
+use lib.Dec.{leb}
 use lib.IntN.{ℤ, natAbs}
 use borrow.Author.Tests.{lt-ltb, le-ltb, lt-leb, ltb-false, leb-false, ltb-true, leb-true, le-leb, not-false}
 use Rattle.ion.specs.Offset.{WithinDay, isOffset, rawOf}

@@ -16,7 +16,6 @@ use Rattle.ion.specs.Check.{precisionOf, fromLocal, offsetAt, givenAt, fraction
 use Rattle.ion.specs.Accepted.{InBounds, Staged, Valid, dateIn}
 use Rattle.ion.specs.declared.Fields.{Fields}
 use Rattle.ion.specs.declared.BuilderFields.{BuilderFields}
-use Rattle.ion.specs.declared.Timestamp.{Timestamp}
 use Rattle.ion.specs.declared.offset.RawOffset.{RawOffset}
 use Rattle.ion.specs.declared.offset.Offset.{Offset}
 use Rattle.ion.specs.declared.offset.Offset.the-variants.{Unknown, Known}

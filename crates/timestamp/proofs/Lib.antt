@@ -10,5 +10,4 @@ pub mod Given
 pub mod Accepts
 pub mod Decides
 pub mod Tested
-pub mod Told
 pub mod UtcForm

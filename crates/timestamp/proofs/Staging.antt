@@ -5,7 +5,7 @@ use native.Mathlib.Omega.{arith}
 use Rattle.ion.specs.Fraction.{scale}
 use Rattle.ion.specs.Build.{precisionNumber}
 use Rattle.ion.specs.Accepted.{Staged}
-use Rattle.ion.specs.Stages.{fieldsAre, withYear, withMonth, withDay, withHour, withHourAndMinute, withMinute, withSecond, withFraction, withOffset, Stage, hasYear, hasMonth, hasDay, hasHour, hasMinute, hasSeconds, hasFraction, hasOffset, Offsets, Gives}
+use Rattle.ion.specs.Stages.{fieldsAre, withMonth, withDay, withHour, withHourAndMinute, withMinute, withSecond, withFraction, withOffset, Stage, hasYear, hasMonth, hasDay, hasHour, hasMinute, hasSeconds, hasFraction, hasOffset, Offsets, Gives}
 use Rattle.ion.specs.Stages as stages
 use Rattle.ion.specs.declared.BuilderFields.{BuilderFields}
 use Rattle.ion.specs.declared.BuilderOffset.{BuilderOffset}

@@ -11,7 +11,7 @@ use Rattle.ion.specs.Word.{fieldsOf}
 use Rattle.ion.specs.Pair.{wordIn}
 use Rattle.ion.specs.Fraction.{scale}
 use Rattle.ion.specs.Check.{checkOf}
-use Rattle.ion.specs.Accepted.{Valid, Accepted, dateIn}
+use Rattle.ion.specs.Accepted.{Valid, dateIn}
 use Rattle.ion.specs.declared.Date.{Date}
 use Rattle.ion.specs.declared.Fields.{Fields}
 use Rattle.ion.specs.declared.Timestamp.{Timestamp}

@@ -1,7 +1,7 @@
 -- What the builder gives is valid, and valid fields make an accepted pair. Assumes nothing.
 use mathlib.Core.Path.{_≡_, sym, ap, subst, _∙_}
 use mathlib.Core.List.{_++_}
-use Prim.Native.Nat.{ℕ, _%_, _^_, _<_}
+use Prim.Native.Nat.{ℕ, _%_, _<_}
 use native.Mathlib.Nat.{mod-eq-of-lt}
 use native.Mathlib.Omega.{arith}
 use Rattle.ion.specs.Shift.{IsDateTime}

@@ -1,6 +1,7 @@
 // The check of a packed pair.
 use crate::accepted::is_accepted;
-use crate::building;
+use crate::answer::refused;
+use crate::building::build;
 use ion::BuilderFields;
 use ion::BuilderOffset;
 use ion::Built;
@@ -98,10 +99,10 @@ fn same_as(s: Timestamp, b: Built) -> Built
         return b;
     }
     if built_word != word {
-        return building::refused(refusal::PAIR);
+        return refused(refusal::PAIR);
     }
     if built_attoseconds != attoseconds {
-        return building::refused(refusal::PAIR);
+        return refused(refusal::PAIR);
     }
     b
 }
@@ -113,9 +114,9 @@ fn check_by_building(s: Timestamp) -> Built
     let f = packed::unpack(s.packed_fields);
     let digits = f.digits;
     if 18 < digits {
-        return building::refused(refusal::DIGITS);
+        return refused(refusal::DIGITS);
     }
-    same_as(s, building::build(rebuild(f, s.attoseconds)))
+    same_as(s, build(rebuild(f, s.attoseconds)))
 }
 
 // Whether the builder gives this pair: 0 and the pair, or a number and (0, 0). Only a pair that is refused is built

@@ -27,7 +27,8 @@ fn moved_back(f: Fields, m: OffsetMinutes) -> Fields
         hour: f.hour,
         minute: f.minute,
     };
-    let t = calendar::add_offset_to_utc(local, m.negated());
+    let back = m.negated();
+    let t = calendar::add_offset_to_utc(local, back);
     Fields {
         year: t.year,
         month: t.month,

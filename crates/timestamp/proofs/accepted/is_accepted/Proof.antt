@@ -1,5 +1,5 @@
 -- `timestamp::accepted::is_accepted` meets its contract. Assumes nothing.
-use mathlib.Core.Path.{_≡_, sym, subst}
+use mathlib.Core.Path.{sym, subst}
 use Prim.Native.Nat.{_^_, _<_}
 use lib.Dec.{eqb}
 use borrow.Author.Needs.{needs}

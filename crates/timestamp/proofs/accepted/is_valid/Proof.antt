@@ -1,7 +1,7 @@
 -- `timestamp::accepted::is_valid` meets its contract. Assumes nothing.
 use mathlib.Core.Path.{_≡_, sym, ap, ap₂, subst, _∙_}
-use mathlib.Core.Bool.{Bool, true, false, _&&_, and-eq-true-iff}
-use Prim.Native.Nat.{ℕ, _%_, _^_, _<_}
+use mathlib.Core.Bool.{Bool, true, _&&_, and-eq-true-iff}
+use Prim.Native.Nat.{ℕ, _%_, _^_}
 use lib.Dec.{eqb, ltb}
 use borrow.Author.Needs.{needs}
 use borrow.Author.Tests.{ltb-true, not-true, not-false}

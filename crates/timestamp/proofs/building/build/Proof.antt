@@ -11,12 +11,6 @@ use Rattle.timestamp.proofs.Routes.{ranges-pass, routed, build-routed, 
 use Rattle.timestamp.proofs.building.build.Statement.{statement}
 use Rattle.timestamp.proofs.building.build.Tie as tie
 
-check-ranges-requires : tie.Need-check-ranges-requires
-check-ranges-requires c κs = search needs
-
-refused-requires : tie.Need-refused-requires
-refused-requires c κs = search needs
-
 returns : tie.Need-returns
 returns c =
     let e = c .before .before .check-ranges .ensures in
@@ -36,20 +30,11 @@ within c e = subst (λ (o : BuilderOffset). WithinDay (offsetIs o)) e (bounds c 
 told : (c : tie.Else1) {o : BuilderOffset} → c .before .before .args .f .offset ≡ o → routed (c .before .before .args .f) o ≡ buildOf (c .before .before .args .f)
 told c e = let f = c .before .before .args .f in sym (build-routed f (passed c) ∙ ap (routed f) e)
 
-enum-told : tie.Need-enum-told
-enum-told c = search needs
-
 build-local-requires : tie.Need-build-local-requires
 build-local-requires c κs = (bounds (c .before .before), tt)
 
-enum-known-offset : tie.Need-enum-known-offset
-enum-known-offset c = search needs
-
 build-local-requires-2 : tie.Need-build-local-requires-2
 build-local-requires-2 c κs = let e1 = c .before .before .before in (bounds e1, within e1 (c .before .offset .given .1))
-
-enum-known-offset-2 : tie.Need-enum-known-offset-2
-enum-known-offset-2 c = search needs
 
 build-utc-requires : tie.Need-build-utc-requires
 build-utc-requires c κs = let e1 = c .before .before .before in (bounds e1, within e1 (c .before .offset2 .given .1))
@@ -67,14 +52,14 @@ pub build-spec : {M : Type 1} → statement M
 build-spec =
     tie.close
     (tie.spec
-    check-ranges-requires
-    refused-requires
+    (λ c κs. search needs)
+    (λ c κs. search needs)
     returns
-    enum-told
+    (λ c. search needs)
     build-local-requires
-    enum-known-offset
+    (λ c. search needs)
     build-local-requires-2
-    enum-known-offset-2
+    (λ c. search needs)
     build-utc-requires
     returns-2
     returns-3

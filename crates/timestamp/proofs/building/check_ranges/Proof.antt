@@ -10,30 +10,6 @@ use Rattle.timestamp.proofs.building.check_ranges.Tie as tie
 returns : tie.Need-returns
 returns c = simp (le-leb _ _ (c .if1 .taken))
 
-returns-2 : tie.Need-returns-2
-returns-2 c = search (lt-ltb, le-ltb, lt-leb)
-
-returns-3 : tie.Need-returns-3
-returns-3 c = search (lt-ltb, le-ltb, lt-leb)
-
-returns-4 : tie.Need-returns-4
-returns-4 c = search (lt-ltb, le-ltb, lt-leb)
-
-returns-5 : tie.Need-returns-5
-returns-5 c = search (lt-ltb, le-ltb, lt-leb)
-
-returns-6 : tie.Need-returns-6
-returns-6 c = search (lt-ltb, le-ltb, lt-leb)
-
-returns-7 : tie.Need-returns-7
-returns-7 c = search (lt-ltb, le-ltb, lt-leb)
-
-returns-8 : tie.Need-returns-8
-returns-8 c = search (lt-ltb, le-ltb, lt-leb)
-
-is-outside-requires : tie.Need-is-outside-requires
-is-outside-requires c κs = search needs
-
 returns-9 : tie.Need-returns-9
 returns-9 c =
     let h : outside (c .before .before .before .before .before .before .before .before .before .before .args .f .offset) ≡ true = sym (c .before .is-outside .ensures) ∙ c .if9 .taken in
@@ -49,13 +25,13 @@ check-ranges-spec =
     tie.close
     (tie.spec
     returns
-    returns-2
-    returns-3
-    returns-4
-    returns-5
-    returns-6
-    returns-7
-    returns-8
-    is-outside-requires
+    (λ c. search (lt-ltb, le-ltb, lt-leb))
+    (λ c. search (lt-ltb, le-ltb, lt-leb))
+    (λ c. search (lt-ltb, le-ltb, lt-leb))
+    (λ c. search (lt-ltb, le-ltb, lt-leb))
+    (λ c. search (lt-ltb, le-ltb, lt-leb))
+    (λ c. search (lt-ltb, le-ltb, lt-leb))
+    (λ c. search (lt-ltb, le-ltb, lt-leb))
+    (λ c κs. search needs)
     returns-9
     returns-10)

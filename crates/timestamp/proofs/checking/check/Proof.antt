@@ -1,5 +1,5 @@
 -- `timestamp::checking::check` meets its contract. Assumes nothing.
-use mathlib.Core.Path.{_≡_, sym, _∙_}
+use mathlib.Core.Path.{sym, _∙_}
 use borrow.Author.Needs.{needs}
 use borrow.Author.Tests.{eqb-true}
 use Rattle.timestamp.proofs.Accepts.{check-same}

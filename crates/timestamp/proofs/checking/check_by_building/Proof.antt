@@ -1,5 +1,5 @@
 -- `timestamp::checking::check_by_building` meets its contract. Assumes nothing.
-use mathlib.Core.Path.{_≡_, sym, ap, subst, _∙_}
+use mathlib.Core.Path.{sym, ap, subst, _∙_}
 use Prim.Native.Nat.{_≤_, _<_}
 use Rattle.ion.specs.declared.Fields.{Fields}
 use Rattle.ion.specs.Build.{buildOf}
@@ -9,25 +9,10 @@ use borrow.Author.Needs.{needs}
 use Rattle.timestamp.proofs.checking.check_by_building.Statement.{statement}
 use Rattle.timestamp.proofs.checking.check_by_building.Tie as tie
 
-unpack-requires : tie.Need-unpack-requires
-unpack-requires c κs = search needs
-
-refused-requires : tie.Need-refused-requires
-refused-requires c κs = search needs
-
 returns : tie.Need-returns
 returns c =
     let u = c .before .before in
     c .refused .ensures ∙ sym (check-digits (u .before .args .s) (subst (λ (f : Fields). 18 < f .digits) (u .unpack .ensures) (c .before .if1 .taken)))
-
-rebuild-requires : tie.Need-rebuild-requires
-rebuild-requires c κs = search needs
-
-build-requires : tie.Need-build-requires
-build-requires c κs = search needs
-
-same-as-requires : tie.Need-same-as-requires
-same-as-requires c κs = search needs
 
 returns-2 : tie.Need-returns-2
 returns-2 c =
@@ -42,10 +27,10 @@ pub check-by-building-spec : {M : Type 1} → statement M
 check-by-building-spec =
     tie.close
     (tie.spec
-    unpack-requires
-    refused-requires
+    (λ c κs. search needs)
+    (λ c κs. search needs)
     returns
-    rebuild-requires
-    build-requires
-    same-as-requires
+    (λ c κs. search needs)
+    (λ c κs. search needs)
+    (λ c κs. search needs)
     returns-2)

@@ -12,9 +12,6 @@ returns c = simp (lt-leb _ _ (c .if1 .taken))
 returns-2 : tie.Need-returns-2
 returns-2 c = simp (le-leb _ _ (c .before .if1 .left), c .if2 .taken)
 
-cut-requires : tie.Need-cut-requires
-cut-requires c κs = search needs
-
 returns-3 : tie.Need-returns-3
 returns-3 c =
     let a = c .before .before .before .args in
@@ -22,4 +19,4 @@ returns-3 c =
     simp (le-leb _ _ (c .before .before .if1 .left), lt-ltb _ _ h, c .cut .ensures)
 
 pub fraction-at-spec : {M : Type 1} → statement M
-fraction-at-spec = tie.close (tie.spec returns returns-2 cut-requires returns-3)
+fraction-at-spec = tie.close (tie.spec returns returns-2 (λ c κs. search needs) returns-3)

@@ -1,5 +1,5 @@
 -- `timestamp::checking::offset_at` meets its contract. Assumes nothing.
-use mathlib.Core.Path.{_≡_, sym, ap, _∙_}
+use mathlib.Core.Path.{sym, ap, _∙_}
 use borrow.Author.Tests.{le-leb, lt-leb}
 use Rattle.ion.specs.Check.{fromLocal}
 use borrow.Author.Needs.{needs}
@@ -8,15 +8,6 @@ use Rattle.timestamp.proofs.checking.offset_at.Tie as tie
 
 returns : tie.Need-returns
 returns c = simp (lt-leb _ _ (c .if1 .taken))
-
-offset-of-requires : tie.Need-offset-of-requires
-offset-of-requires c κs = search needs
-
-enum-told : tie.Need-enum-told
-enum-told c = search needs
-
-enum-known-o : tie.Need-enum-known-o
-enum-known-o c = search needs
 
 returns-2 : tie.Need-returns-2
 returns-2 c =
@@ -30,4 +21,4 @@ returns-3 c =
 
 pub offset-at-spec : {M : Type 1} → statement M
 offset-at-spec =
-    tie.close (tie.spec returns offset-of-requires enum-told enum-known-o returns-2 returns-3)
+    tie.close (tie.spec returns (λ c κs. search needs) (λ c. search needs) (λ c. search needs) returns-2 returns-3)

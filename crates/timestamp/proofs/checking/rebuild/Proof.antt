@@ -3,36 +3,6 @@ use borrow.Author.Needs.{needs}
 use Rattle.timestamp.proofs.checking.rebuild.Statement.{statement}
 use Rattle.timestamp.proofs.checking.rebuild.Tie as tie
 
-precision-of-requires : tie.Need-precision-of-requires
-precision-of-requires c κs = search needs
-
-offset-at-requires : tie.Need-offset-at-requires
-offset-at-requires c κs = search needs
-
-given-at-requires : tie.Need-given-at-requires
-given-at-requires c κs = search needs
-
-given-at-requires-2 : tie.Need-given-at-requires-2
-given-at-requires-2 c κs = search needs
-
-given-at-requires-3 : tie.Need-given-at-requires-3
-given-at-requires-3 c κs = search needs
-
-given-at-requires-4 : tie.Need-given-at-requires-4
-given-at-requires-4 c κs = search needs
-
-given-at-requires-5 : tie.Need-given-at-requires-5
-given-at-requires-5 c κs = search needs
-
-fraction-at-requires : tie.Need-fraction-at-requires
-fraction-at-requires c κs = search needs
-
-given-at-requires-6 : tie.Need-given-at-requires-6
-given-at-requires-6 c κs = search needs
-
-cast-t14 : tie.Need-cast-t14
-cast-t14 c = search needs
-
 returns : tie.Need-returns
 returns c =
     let b1 = c .before in
@@ -61,14 +31,14 @@ pub rebuild-spec : {M : Type 1} → statement M
 rebuild-spec =
     tie.close
     (tie.spec
-    precision-of-requires
-    offset-at-requires
-    given-at-requires
-    given-at-requires-2
-    given-at-requires-3
-    given-at-requires-4
-    given-at-requires-5
-    fraction-at-requires
-    given-at-requires-6
-    cast-t14
+    (λ c κs. search needs)
+    (λ c κs. search needs)
+    (λ c κs. search needs)
+    (λ c κs. search needs)
+    (λ c κs. search needs)
+    (λ c κs. search needs)
+    (λ c κs. search needs)
+    (λ c κs. search needs)
+    (λ c κs. search needs)
+    (λ c. search needs)
     returns)

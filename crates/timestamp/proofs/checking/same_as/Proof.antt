@@ -1,5 +1,5 @@
 -- `timestamp::checking::same_as` meets its contract. Assumes nothing.
-use mathlib.Core.Path.{_≡_, _∙_}
+use mathlib.Core.Path.{_∙_}
 use borrow.Author.Tests.{eq-eqb, ne-eqb}
 use borrow.Author.Needs.{needs}
 use Rattle.timestamp.proofs.checking.same_as.Statement.{statement}
@@ -8,14 +8,8 @@ use Rattle.timestamp.proofs.checking.same_as.Tie as tie
 returns : tie.Need-returns
 returns c = simp (ne-eqb _ _ (c .if1 .taken))
 
-refused-requires : tie.Need-refused-requires
-refused-requires c κs = search needs
-
 returns-2 : tie.Need-returns-2
 returns-2 c = c .refused .ensures ∙ simp (c .before .before .if1 .left, ne-eqb _ _ (c .before .if2 .taken))
-
-refused-requires-2 : tie.Need-refused-requires-2
-refused-requires-2 c κs = search needs
 
 returns-3 : tie.Need-returns-3
 returns-3 c =
@@ -29,4 +23,4 @@ returns-4 c =
 
 pub same-as-spec : {M : Type 1} → statement M
 same-as-spec =
-    tie.close (tie.spec returns refused-requires returns-2 refused-requires-2 returns-3 returns-4)
+    tie.close (tie.spec returns (λ c κs. search needs) returns-2 (λ c κs. search needs) returns-3 returns-4)

@@ -7,7 +7,6 @@ use borrow.Author.Needs.{needs}
 use Rattle.ion.specs.Shift.{shifted}
 use Rattle.ion.specs.Accepted.{timeIn}
 use Rattle.ion.specs.Utc.{withTime}
-use Rattle.ion.specs.declared.DateTime.{DateTime}
 use Rattle.ion.specs.declared.offset.OffsetMinutes.{OffsetMinutes}
 use Rattle.timestamp.proofs.UtcForm.{negated-within}
 use Rattle.timestamp.proofs.utc.moved_back.Statement.{statement}

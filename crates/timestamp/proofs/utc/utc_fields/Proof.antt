@@ -1,5 +1,5 @@
 -- `timestamp::utc::utc_fields` meets its contract. Assumes nothing.
-use mathlib.Core.Path.{_≡_, sym, ap, subst, _∙_}
+use mathlib.Core.Path.{sym, ap, subst, _∙_}
 use borrow.Author.Needs.{needs}
 use Rattle.ion.specs.Offset.{WithinDay}
 use Rattle.ion.specs.Utc.{utcBy, utcFields}

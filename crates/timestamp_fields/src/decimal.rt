@@ -1,0 +1,35 @@
+// The fraction as a decimal.
+use ion::Decimal;
+use ion::DecimalField;
+use ion::Timestamp;
+use timestamp::number_of;
+ghost use mathlib.Core.Path.{_≡_};
+ghost use Rattle.ion.specs.Reads.{decimalFieldOf};
+
+// Its digits as the coefficient, and minus their number as the exponent.
+pub fn fractional_seconds(s: Timestamp) -> DecimalField
+    ensures { λ r. ⌜ r ≡ decimalFieldOf s ⌝ }
+{
+    let attoseconds = s.attoseconds;
+    let n = number_of(s);
+    if n != 0 {
+        return DecimalField {
+            number: n,
+            value: Decimal {
+                negative: false,
+                coefficient: 0,
+                exponent: 0,
+            },
+        };
+    }
+    let digits = packed::digits(s.packed_fields);
+    let unit = fraction::scale(digits as u64);
+    DecimalField {
+        number: 0,
+        value: Decimal {
+            negative: false,
+            coefficient: attoseconds / unit,
+            exponent: -(digits as i64),
+        },
+    }
+}
