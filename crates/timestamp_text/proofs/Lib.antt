@@ -1,0 +1,5 @@
+pub mod Numbers
+pub mod Same
+pub mod Lengths
+pub mod Offsets
+pub mod ReadBack
