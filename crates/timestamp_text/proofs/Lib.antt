@@ -1,5 +1,7 @@
-pub mod Numbers
-pub mod Same
+pub mod Forms
 pub mod Lengths
+pub mod Numbers
 pub mod Offsets
 pub mod ReadBack
+pub mod Same
+pub mod Signs

@@ -1,0 +1,16 @@
+-- The text of a timestamp up to its month, its day and its minute. Assumes nothing.
+use Prim.Native.Nat.{ℕ}
+use Prim.Native.Char.{code}
+use mathlib.Core.List.{List, _++_}
+use Rattle.ion.specs.Padded.{padded}
+use Rattle.ion.specs.Text.{marked}
+use Rattle.ion.specs.declared.Fields.{Fields}
+
+abbrev pub toMonth : Fields → List ℕ
+toMonth f = padded 4 (f .year) ++ marked (code "-") (f .month)
+
+abbrev pub toDay : Fields → List ℕ
+toDay f = toMonth f ++ marked (code "-") (f .day)
+
+abbrev pub toMinute : Fields → List ℕ
+toMinute f = toDay f ++ marked (code "T") (f .hour) ++ marked (code ":") (f .minute)
