@@ -22,7 +22,7 @@ use Rattle.ion.specs.declared.offset.Offset.the-variants.{Unknown, Known}
 use Rattle.ion.proofs.Offsets.{back-within}
 use Rattle.text.proofs.Digits.{length-exact}
 use Rattle.fraction.proofs.Scales.{units-lt}
-use Rattle.timestamp_text.specs.Fronts.{toMonth, toDay, toMinute}
+use Rattle.timestamp_text.specs.Fronts.{toMonth, toDay, toMinute, toSecond, toFraction}
 use Rattle.timestamp_text.specs.Length.{fractionLength, textLength}
 
 -- ---- parts
@@ -86,11 +86,10 @@ length-text f a v r =
     let s = length-marked (code ":") (f .second) (omega arith) in
     let x = length-fraction (f .digits) a (v .digits) (v .attoseconds) in
     let o = length-offset (offsetOf (f .offset)) (back-within (f .offset) (v .offset)) in
-    let t = toMinute f ++ marked (code ":") (f .second) in
     let u = fractionText (f .digits) a in
     let w = offsetText (offsetOf (f .offset)) in
     either (eqb (f .precision) 0) _ _ 5 _ (omega (arith, length-append (padded 4 (f .year)) (ascii "T")))
     (either (eqb (f .precision) 1) _ _ 8 _ (omega (arith, length-append (toMonth f) (ascii "T")))
     (either (eqb (f .precision) 2) _ _ 11 _ (omega (arith, length-append (toDay f) (ascii "T")))
     (either (eqb (f .precision) 3) _ _ 22 _ (omega (arith, length-append (toMinute f) w))
-    (omega (arith, length-append (t ++ u) w, length-append t u, length-append (toMinute f) (marked (code ":") (f .second)))))))
+    (omega (arith, length-append (toFraction f a) w, length-append (toSecond f) u, length-append (toMinute f) (marked (code ":") (f .second)))))))

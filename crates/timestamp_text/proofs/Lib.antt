@@ -3,5 +3,6 @@ pub mod Lengths
 pub mod Numbers
 pub mod Offsets
 pub mod ReadBack
+pub mod Rooms
 pub mod Same
 pub mod Signs

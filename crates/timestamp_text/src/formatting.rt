@@ -56,10 +56,10 @@ pub fn text_into(b: &mut [u8], at: usize, f: Fields, attoseconds: u64) -> usize
     }
     if precision == 3 {
         let minute = date::format_date_hour_and_minute(b, at, f);
-        return offset::format_offset(b, minute, ion::offset::offset_of(raw));
+        return offset::format_offset(b, minute, raw);
     }
     let minute = date::format_date_hour_and_minute(b, at, f);
     let second = part::put_marked(b, minute, b':', f.second);
     let fraction = part::format_fractional_seconds(b, second, f.digits, attoseconds);
-    offset::format_offset(b, fraction, ion::offset::offset_of(raw))
+    offset::format_offset(b, fraction, raw)
 }

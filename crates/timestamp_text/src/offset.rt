@@ -1,13 +1,15 @@
 // The offset at the end of a text: six bytes.
 use crate::part;
+use ion::offset;
 use ion::offset::Offset;
 use ion::offset::OffsetMinutes;
+use ion::offset::RawOffset;
 use text::text_formatter;
 ghost use Prim.Native.Nat.{_+_, _≤_, _<_};
 ghost use lib.IntN.{natAbs};
 ghost use lib.ListN.{length};
 ghost use Rattle.ion.specs.Output.{Run};
-ghost use Rattle.ion.specs.Offset.{WithinDay};
+ghost use Rattle.ion.specs.Offset.{offsetOf};
 ghost use Rattle.ion.specs.Text.{clockText, minutesText, offsetText};
 
 // Hours and minutes.
@@ -37,10 +39,11 @@ fn put_minutes(b: &mut [u8], at: usize, m: OffsetMinutes) -> usize
     at + 6
 }
 
-pub(crate) fn format_offset(b: &mut [u8], at: usize, o: Offset) -> usize
-    requires { ⌜ (at + 6 ≤ length (now b)) × WithinDay o ⌝ }
-    ensures { λ r. ⌜ Run (now (b .entry)) at (offsetText o) (now (b .exit)) r ⌝ }
+pub(crate) fn format_offset(b: &mut [u8], at: usize, raw: RawOffset) -> usize
+    requires { ⌜ (at + 6 ≤ length (now b)) × (raw .0 < 2880) ⌝ }
+    ensures { λ r. ⌜ Run (now (b .entry)) at (offsetText (offsetOf raw)) (now (b .exit)) r ⌝ }
 {
+    let o = offset::offset_of(raw);
     match o {
         Offset::Unknown => {
             output::copy_in(b, at, b"-00:00");
