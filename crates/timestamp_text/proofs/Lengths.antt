@@ -1,0 +1,95 @@
+-- The lengths of a text and of its parts; none is longer than 44 bytes. Assumes nothing.
+use mathlib.Core.Path.{_≡_, refl}
+use mathlib.Core.Bool.{Bool, true, false, cond}
+use mathlib.Core.List.{List, _++_}
+use Prim.Native.Char.{code}
+use Prim.Native.Nat.{ℕ, zero, suc, _+_, _/_, _%_, _^_, _≤_, _<_}
+use native.Mathlib.Omega.{arith}
+use borrow.Author.Tests.{ne-eqb}
+use lib.Dec.{lit≤, eqb}
+use lib.IntN.{ℤ, pos, negsuc, natAbs}
+use lib.ListN.{length, length-append}
+use Rattle.ion.specs.Ascii.{ascii}
+use Rattle.ion.specs.Padded.{padded}
+use Rattle.ion.specs.Offset.{WithinDay, offsetOf}
+use Rattle.ion.specs.Fraction.{scale}
+use Rattle.ion.specs.Word.{InRange}
+use Rattle.ion.specs.Accepted.{Valid}
+use Rattle.ion.specs.Text.{marked, fractionText, clockText, minutesText, offsetText, fieldsText}
+use Rattle.ion.specs.declared.Fields.{Fields}
+use Rattle.ion.specs.declared.offset.Offset.{Offset}
+use Rattle.ion.specs.declared.offset.Offset.the-variants.{Unknown, Known}
+use Rattle.ion.proofs.Offsets.{back-within}
+use Rattle.text.proofs.Digits.{length-exact}
+use Rattle.fraction.proofs.Scales.{units-lt}
+use Rattle.timestamp_text.specs.Fronts.{toMonth, toDay, toMinute, toSecond, toFraction}
+use Rattle.timestamp_text.specs.Length.{fractionLength, textLength}
+
+-- ---- parts
+
+pub length-marked : (c n : ℕ) → n < 100 → length (marked c n) ≡ 3
+unfolding marked
+length-marked c n h = omega (arith, length-exact 2 n (lit≤ tt) h)
+
+pub length-fraction : (d a : ℕ) → d ≤ 18 → a < 10 ^ 18 → length (fractionText d a) ≡ fractionLength d
+unfolding fractionText
+length-fraction zero a h m = refl
+length-fraction (suc n) a h m =
+    let d = suc n in
+    rw (ne-eqb d 0 (omega arith)) (omega (arith, length-exact d (a / scale d) (omega arith) (units-lt d a h m)))
+
+pub length-clock : (n : ℕ) → n < 1440 → length (clockText n) ≡ 5
+unfolding clockText
+length-clock n h =
+    omega (arith, length-append (padded 2 (n / 60)) (marked (code ":") (n % 60)), length-exact 2 (n / 60) (lit≤ tt) (omega arith), length-marked (code ":") (n % 60) (omega arith))
+
+length-minutes : (z : ℤ) → natAbs z < 1440 → length (minutesText z) ≡ 6
+unfolding minutesText
+length-minutes (pos zero) h = refl
+length-minutes (pos (suc n)) h = omega (arith, length-clock (suc n) h)
+length-minutes (negsuc n) h = omega (arith, length-clock (suc n) h)
+
+pub length-offset : (o : Offset) → WithinDay o → length (offsetText o) ≡ 6
+unfolding offsetText
+length-offset Unknown h = refl
+length-offset (Known m) h = length-minutes (m .0) h
+
+-- ---- fronts
+
+module _ (f : Fields) (y : f .year ≤ 9999) (r : InRange f) where
+  pub length-year : length (padded 4 (f .year)) ≡ 4
+  length-year = length-exact 4 (f .year) (lit≤ tt) (omega arith)
+
+  pub length-month : length (toMonth f) ≡ 7
+  length-month = omega (arith, length-append (padded 4 (f .year)) (marked (code "-") (f .month)), length-year, length-marked (code "-") (f .month) (omega arith))
+
+  pub length-day : length (toDay f) ≡ 10
+  length-day = omega (arith, length-append (toMonth f) (marked (code "-") (f .day)), length-month, length-marked (code "-") (f .day) (omega arith))
+
+  pub length-minute : length (toMinute f) ≡ 16
+  length-minute =
+      omega (arith, length-append (toDay f ++ marked (code "T") (f .hour)) (marked (code ":") (f .minute)), length-append (toDay f) (marked (code "T") (f .hour)), length-day, length-marked (code "T") (f .hour) (omega arith), length-marked (code ":") (f .minute) (omega arith))
+
+-- ---- the whole
+
+either : (t : Bool) (a b : List ℕ) (m n : ℕ) → length a ≡ m → length b ≡ n → length (cond t a b) ≡ cond t m n
+either true a b m n h k = h
+either false a b m n h k = k
+
+pub length-text : (f : Fields) (a : ℕ) → Valid f a → InRange f → length (fieldsText f a) ≡ textLength (f .precision) (f .digits)
+unfolding fieldsText textLength
+length-text f a v r =
+    let y = length-year f (v .to-year) r in
+    let mo = length-month f (v .to-year) r in
+    let d = length-day f (v .to-year) r in
+    let mi = length-minute f (v .to-year) r in
+    let s = length-marked (code ":") (f .second) (omega arith) in
+    let x = length-fraction (f .digits) a (v .digits) (v .attoseconds) in
+    let o = length-offset (offsetOf (f .offset)) (back-within (f .offset) (v .offset)) in
+    let u = fractionText (f .digits) a in
+    let w = offsetText (offsetOf (f .offset)) in
+    either (eqb (f .precision) 0) _ _ 5 _ (omega (arith, length-append (padded 4 (f .year)) (ascii "T")))
+    (either (eqb (f .precision) 1) _ _ 8 _ (omega (arith, length-append (toMonth f) (ascii "T")))
+    (either (eqb (f .precision) 2) _ _ 11 _ (omega (arith, length-append (toDay f) (ascii "T")))
+    (either (eqb (f .precision) 3) _ _ 22 _ (omega (arith, length-append (toMinute f) w))
+    (omega (arith, length-append (toFraction f a) w, length-append (toSecond f) u, length-append (toMinute f) (marked (code ":") (f .second)))))))

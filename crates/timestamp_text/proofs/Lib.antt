@@ -1,0 +1,8 @@
+pub mod Forms
+pub mod Lengths
+pub mod Numbers
+pub mod Offsets
+pub mod ReadBack
+pub mod Rooms
+pub mod Same
+pub mod Signs

@@ -1,0 +1,33 @@
+-- `offset::put_clock` meets its contract. Assumes nothing.
+use borrow.Author.Needs.{needs}
+use Prim.Native.Nat.{_/_, _%_}
+use Prim.Native.Char.{code}
+use native.Mathlib.Omega.{arith}
+use lib.Dec.{lit≤}
+use Rattle.ion.specs.Text.{clockText}
+use Rattle.output.proofs.Runs.{run-two}
+use Rattle.text.proofs.Digits.{length-exact}
+use Rattle.timestamp_text.proofs.Lengths.{length-marked}
+use Rattle.timestamp_text.proofs.offset.put_clock.Statement.{statement}
+use Rattle.timestamp_text.proofs.offset.put_clock.Tie as tie
+
+put-marked-requires : tie.Need-put-marked-requires
+put-marked-requires c κs =
+    let p = c .before .before .before in
+    let a = p .before .before .before .args in
+    (omega (arith, p .put-two .ensures .next, length-exact 2 (a .minutes / 60) (lit≤ tt) (omega arith)), omega arith)
+
+returns : tie.Need-returns
+unfolding clockText
+returns c =
+    let q = c .before .before in
+    let p = q .before .before .before .before in
+    let a = p .before .before .before .args in
+    let e = p .put-two .ensures in
+    let f = q .put-marked .ensures in
+    let m = length-exact 2 (a .minutes / 60) (lit≤ tt) (omega arith) in
+    let n = length-marked (code ":") (a .minutes % 60) (omega arith) in
+    run-two e f (omega (arith, e .next, f .next))
+
+pub put-clock-spec : {M : Type 1} → statement M
+put-clock-spec = tie.close (tie.spec (λ c κs. search needs) put-marked-requires (λ c. search needs) returns)

@@ -1,0 +1,138 @@
+-- `offset::put_minutes` meets its contract. Assumes nothing.
+use borrow.Author.Needs.{needs}
+use mathlib.Core.Path.{_≡_, refl}
+use mathlib.Core.Bool.{true}
+use Prim.Native.Nat.{_<_}
+use native.Mathlib.Omega.{arith}
+use lib.IntN.{ℤ, pos, natAbs, _-ℤ_}
+use lib.Signed.{ltZ}
+use mir.Syntax.{w32}
+use mir.Val.{SFits}
+use mir.Facts.{toZ-ofZ}
+use Rattle.integers.proofs.Parts.{Gives, may-cast, to-unsigned, gives-fits}
+use Rattle.ion.proofs.Offsets.{offset-fits}
+use Rattle.output.proofs.Runs.{run-two}
+use Rattle.timestamp_text.proofs.Lengths.{length-clock}
+use Rattle.timestamp_text.proofs.Signs.{minutes-below, minutes-above, minutes-none, negated-is, itself-is}
+use Rattle.timestamp_text.proofs.offset.put_minutes.Statement.{statement}
+use Rattle.timestamp_text.proofs.offset.put_minutes.Tie as tie
+
+-- the minutes that were read
+abbrev read : tie.After-minutes → ℤ
+read c = c .minutes .result
+
+small : (c : tie.After-minutes) → natAbs (read c) < 1440
+small c = rw (c .minutes .ensures) (c .before .before .pre .1)
+
+fits : (c : tie.After-minutes) → SFits w32 (read c)
+fits c = offset-fits (read c) (small c)
+
+-- ---- west of UTC
+
+west : (c : tie.Then1) → ltZ (read (c .before)) (pos 0) ≡ true
+west c = let f = fits (c .before) in let h = c .if1 .taken in simp toZ-ofZ at h
+
+negated : (c : tie.Then1) → Gives (pos 0 -ℤ read (c .before)) (natAbs (read (c .before)))
+negated c = negated-is (read (c .before)) (west c)
+
+negated-fits : (c : tie.Then1) → SFits w32 (pos 0 -ℤ read (c .before))
+negated-fits c = gives-fits w32 (negated c) (omega (arith, small (c .before)))
+
+sub-put-clock : tie.Need-sub-put-clock
+sub-put-clock c =
+    let t = c .before .before .before .before .before in
+    let f = fits (t .before) in
+    simp toZ-ofZ (negated-fits t)
+
+cast-put-clock : tie.Need-cast-put-clock
+cast-put-clock c =
+    let t = c .before .before .before .before .before in
+    let f = fits (t .before) in
+    let g = negated-fits t in
+    simp toZ-ofZ (may-cast w32 (negated t) (omega (arith, small (t .before))))
+
+put-clock-requires : tie.Need-put-clock-requires
+put-clock-requires c κs =
+    let p = c .before .before .before in
+    let t = p .before .before in
+    let f = fits (t .before) in
+    let g = negated-fits t in
+    (omega (arith, p .put-byte .ensures .next), simp toZ-ofZ (omega (arith, to-unsigned (negated t), small (t .before))))
+
+returns : tie.Need-returns
+returns c =
+    let q = c .before .before in
+    let p = q .before .before .before .before in
+    let t = p .before .before in
+    let m = t .before in
+    let f = fits m in
+    let g = negated-fits t in
+    let e = p .put-byte .ensures in
+    let k = q .put-clock .ensures in
+    let l = simp (toZ-ofZ, to-unsigned (negated t)) at k in
+    rw (← m .minutes .ensures, minutes-below (read m) (west t)) (run-two e l (omega (arith, e .next, l .next, length-clock (natAbs (read m)) (small m))))
+
+-- ---- east of UTC
+
+east : (c : tie.Then2) → ltZ (pos 0) (read (c .before .before)) ≡ true
+east c = let f = fits (c .before .before) in let h = c .if2 .taken in simp toZ-ofZ at h
+
+cast-put-clock-2 : tie.Need-cast-put-clock-2
+cast-put-clock-2 c =
+    let t = c .before .before .before .before .before in
+    let m = t .before .before in
+    let f = fits m in
+    simp toZ-ofZ (may-cast w32 (itself-is (read m) (east t)) (omega (arith, small m)))
+
+put-clock-requires-2 : tie.Need-put-clock-requires-2
+put-clock-requires-2 c κs =
+    let p = c .before .before .before in
+    let m = p .before .before .before .before in
+    let f = fits m in
+    (omega (arith, p .put-byte2 .ensures .next), simp toZ-ofZ (small m))
+
+returns-2 : tie.Need-returns-2
+returns-2 c =
+    let q = c .before .before in
+    let p = q .before .before .before .before in
+    let t = p .before .before in
+    let m = t .before .before in
+    let f = fits m in
+    let e = p .put-byte2 .ensures in
+    let k = q .put-clock2 .ensures in
+    let l = simp toZ-ofZ at k in
+    rw (← m .minutes .ensures, minutes-above (read m) (east t)) (run-two e l (omega (arith, e .next, l .next, length-clock (natAbs (read m)) (small m))))
+
+-- ---- neither
+
+returns-3 : tie.Need-returns-3
+returns-3 c =
+    let q = c .before .before in
+    let n = q .before .before .before in
+    let m = n .before .before in
+    let f = fits m in
+    let h = n .before .if1 .left in
+    let k = n .if2 .left in
+    rw (← m .minutes .ensures, minutes-none (read m) (simp toZ-ofZ at h) (simp toZ-ofZ at k)) (record { bytes = q .copy-in .ensures; next = refl })
+
+pub put-minutes-spec : {M : Type 1} → statement M
+put-minutes-spec =
+    tie.close
+    (tie.spec
+    (λ c κs. search needs)
+    (λ c κs. search needs)
+    sub-put-clock
+    cast-put-clock
+    put-clock-requires
+    (λ c. search needs)
+    returns
+    (λ c κs. search needs)
+    cast-put-clock-2
+    put-clock-requires-2
+    (λ c. search needs)
+    returns-2
+    (λ c. search needs)
+    (λ c κs. search needs)
+    (λ c. search needs)
+    (λ c. search needs)
+    returns-3)

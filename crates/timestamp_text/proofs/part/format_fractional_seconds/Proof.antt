@@ -1,0 +1,66 @@
+-- `part::format_fractional_seconds` meets its contract. Assumes nothing.
+use borrow.Author.Needs.{needs}
+use borrow.Author.Tests.{eq-eqb, ne-eqb}
+use mathlib.Core.Path.{_≡_}
+use Prim.Native.Nat.{_+_, _/_}
+use native.Mathlib.Omega.{arith}
+use Rattle.ion.specs.Output.{Run}
+use Rattle.ion.specs.Padded.{digit, lastDigits, padded}
+use Rattle.ion.specs.Fraction.{scale}
+use Rattle.ion.specs.Text.{fractionText}
+use Rattle.places.proofs.Laws.{length-places}
+use Rattle.output.proofs.Runs.{run-none, run-two}
+use Rattle.text.proofs.Digits.{padded-digits}
+use Rattle.fraction.proofs.Scales.{scale-pos, units-lt}
+use Rattle.timestamp_text.specs.Length.{fractionLength}
+use Rattle.timestamp_text.proofs.part.format_fractional_seconds.Statement.{statement}
+use Rattle.timestamp_text.proofs.part.format_fractional_seconds.Tie as tie
+
+returns : tie.Need-returns
+unfolding fractionText
+returns c = rw (eq-eqb _ _ (c .if1 .taken)) (run-none (c .before .before .args .b .now) (c .before .before .args .at))
+
+-- where there is a fraction, its point and its digits have room
+some : (c : tie.Else1) → let a = c .before .before .args in fractionLength (a .digits) ≡ 1 + a .digits
+some c = rw (ne-eqb _ _ (c .if1 .left))
+
+put-byte-requires : tie.Need-put-byte-requires
+put-byte-requires c κs = omega (arith, some (c .before))
+
+div-put-digits : tie.Need-div-put-digits
+div-put-digits c = rw (c .scale .ensures) (scale-pos (c .before .before .before .before .before .before .before .before .args .digits))
+
+put-digits-requires : tie.Need-put-digits-requires
+put-digits-requires c κs =
+    let p = c .before .before .before .before in
+    omega (arith, some (p .before .before), p .put-byte .ensures .next)
+
+returns-2 : tie.Need-returns-2
+unfolding fractionText
+returns-2 c =
+    let q = c .before .before in
+    let u = q .before in
+    let p = u .before .before .before .before in
+    let n = p .before .before in
+    let s = n .before .before in
+    let d = s .args .digits in
+    let v = s .args .attoseconds / scale d in
+    let e = p .put-byte .ensures in
+    let x = ne-eqb d 0 (n .if1 .left) in
+    let w : padded d v ≡ lastDigits d v = padded-digits d v (omega arith) (units-lt d (s .args .attoseconds) (s .pre .1) (s .pre .2)) in
+    let f : Run _ (p .put-byte .result) (lastDigits d v) _ (p .put-byte .result + d) =
+    record { bytes = rw (u .scale .ensures) at (q .put-digits .ensures); next = omega (arith, length-places 10 digit d v) } in
+    rw (x, w) (run-two e f (omega (arith, some n, e .next)))
+
+pub format-fractional-seconds-spec : {M : Type 1} → statement M
+format-fractional-seconds-spec =
+    tie.close
+    (tie.spec
+    returns
+    put-byte-requires
+    (λ c κs. search needs)
+    div-put-digits
+    put-digits-requires
+    (λ c. search needs)
+    (λ c. search needs)
+    returns-2)

@@ -1,0 +1,65 @@
+// The text of a timestamp.
+use crate::date;
+use crate::offset;
+use crate::part;
+use ion::Fields;
+use text::text_formatter;
+ghost use mathlib.Core.Path.{_≡_};
+ghost use Prim.Native.Nat.{_+_, _≤_};
+ghost use lib.ListN.{length};
+ghost use Rattle.ion.specs.Accepted.{Valid};
+ghost use Rattle.ion.specs.Output.{Run};
+ghost use Rattle.ion.specs.Text.{fieldsText};
+ghost use Rattle.ion.specs.Word.{InRange};
+ghost use Rattle.timestamp_text.specs.Length.{textLength};
+
+// How long the text is at a precision, with a number of digits.
+fn text_length(precision: u32, digits: u32) -> usize
+    ensures { λ r. ⌜ r ≡ textLength precision digits ⌝ }
+{
+    if precision == 0 {
+        return 5;
+    }
+    if precision == 1 {
+        return 8;
+    }
+    if precision == 2 {
+        return 11;
+    }
+    if precision == 3 {
+        return 22;
+    }
+    if digits == 0 {
+        return 25;
+    }
+    26 + digits as usize
+}
+
+// Writes the text of fields from index `at` on, where there is room for it; the index after it.
+pub fn text_into(b: &mut [u8], at: usize, f: Fields, attoseconds: u64) -> usize
+    requires { ⌜ (at + length (fieldsText f attoseconds) ≤ length (now b)) × InRange f × Valid f attoseconds ⌝ }
+    ensures { λ r. ⌜ Run (now (b .entry)) at (fieldsText f attoseconds) (now (b .exit)) r ⌝ }
+{
+    let precision = f.precision;
+    let raw = f.offset;
+    if precision == 0 {
+        let year = text_formatter::put_four(b, at, f.year);
+        return part::put_byte(b, year, b'T');
+    }
+    if precision == 1 {
+        let month = date::format_year_and_month(b, at, f);
+        return part::put_byte(b, month, b'T');
+    }
+    if precision == 2 {
+        let day = date::format_date(b, at, f);
+        return part::put_byte(b, day, b'T');
+    }
+    if precision == 3 {
+        let minute = date::format_date_hour_and_minute(b, at, f);
+        return offset::format_offset(b, minute, raw);
+    }
+    let minute = date::format_date_hour_and_minute(b, at, f);
+    let second = part::put_marked(b, minute, b':', f.second);
+    let fraction = part::format_fractional_seconds(b, second, f.digits, attoseconds);
+    offset::format_offset(b, fraction, raw)
+}
