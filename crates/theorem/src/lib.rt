@@ -1,0 +1,1 @@
+// No code: the theorem on any two accepted timestamps.
