@@ -102,7 +102,7 @@ impl<L: Library> Run<'_, L> {
     fn fails(&mut self, call: &str, case: &str, expected: &str, answer: &str) {
         self.failures += 1;
         if self.failures <= SHOWN {
-            println!("DIFFERENT {call} of {case}\n  the Rust: {expected}\n  {}: {answer}", self.library.name());
+            println!("DIFFERENT {call} of {case}\n  owed: {expected}\n  {}: {answer}", self.library.name());
         }
     }
 
