@@ -60,7 +60,13 @@ fn arguments(mut words: impl Iterator<Item = String>) -> Option<Arguments> {
             "--cases" => arguments.options.draws = words.next()?.parse().ok()?,
             "--drawn-only" => arguments.options.drawn_only = true,
             "--of-each" => arguments.of_each = words.next()?.parse().ok()?,
-            "--against" => arguments.against_model = words.next()? == "model",
+            "--against" => {
+                arguments.against_model = match words.next()?.as_str() {
+                    "model" => true,
+                    "ours" => false,
+                    _ => return None,
+                }
+            }
             _ => return None,
         }
     }

@@ -1,6 +1,6 @@
 //! One case of each kind: what the library answers, held against what the Rust's answer makes it owe.
 
-use super::Run;
+use super::{Counted, Run};
 use crate::calls::*;
 use crate::cases::Cases;
 use crate::differences::{self, Listed};
@@ -9,7 +9,7 @@ use crate::oracle::{self, Answer};
 use crate::refusals::SHORT_BUFFER;
 use std::fmt::Debug;
 
-/// What stands in a lent buffer before a call; the two take turns.
+/// What stands in a lent buffer before a call: one in buffers of even length, the other in those of odd.
 const FILLS: [u8; 2] = [0xA5, 0x5A];
 
 impl<L: Library> Run<'_, L> {
@@ -63,6 +63,7 @@ impl<L: Library> Run<'_, L> {
                 self.not_offered.insert(call);
                 return;
             };
+            self.count(Counted::Write, answer.number);
             let expected = expected.clone().map(|bytes| left_in(room, fill, bytes));
             let case = || format!("{} into {room} bytes", case());
             self.judge(call, case, expected, (answer, buffer));
@@ -108,6 +109,7 @@ impl<L: Library> Cases for Run<'_, L> {
             }
         };
         let answer = self.library.build(build);
+        self.count(Counted::Build, answer.number);
         self.judge("build", || format!("{build:?}"), expected::built(expected), answer);
         accepted
     }
@@ -117,6 +119,7 @@ impl<L: Library> Cases for Run<'_, L> {
         self.case();
         let case = || format!("{pair:?}");
         let answer = self.library.check(pair);
+        self.count(Counted::Check, answer.number);
         self.judge("check", case, expected::built(oracle::check(pair)), answer);
         let answer = self.library.to_utc(pair);
         self.judge("to_utc", case, expected::built(oracle::to_utc(pair)), answer);
@@ -156,6 +159,7 @@ impl<L: Library> Cases for Run<'_, L> {
     fn read(&mut self, input: &[u8]) {
         self.case();
         let answer = self.library.read(input);
+        self.count(Counted::Read, answer.number);
         self.judge("read", || format!("{input:02x?}"), Ok(expected::read(input)), answer);
     }
 

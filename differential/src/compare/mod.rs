@@ -10,6 +10,20 @@ use crate::oracle;
 use std::collections::BTreeSet;
 use std::time::{Duration, Instant};
 
+/// The calls whose answers are counted by their number.
+#[derive(Clone, Copy)]
+enum Counted {
+    Build,
+    Check,
+    Write,
+    Read,
+}
+
+const COUNTED: [&str; 4] = ["build", "check", "writers", "read"];
+
+/// Numbers go from 0 to this.
+const LAST_NUMBER: usize = 17;
+
 /// Failures of one run that are printed whole.
 const SHOWN: u64 = 20;
 
@@ -22,6 +36,7 @@ pub struct Run<'a, L: Library> {
     all_answers: u64,
     failures: u64,
     listed: [u64; differences::ALL.len()],
+    numbers: [[u64; LAST_NUMBER + 1]; COUNTED.len()],
     not_offered: BTreeSet<&'static str>,
     started: Instant,
     told: Instant,
@@ -40,6 +55,7 @@ pub fn run<L: Library>(library: &L, options: Options) -> bool {
         all_answers: 0,
         failures: 0,
         listed: [0; differences::ALL.len()],
+        numbers: [[0; LAST_NUMBER + 1]; COUNTED.len()],
         not_offered: BTreeSet::new(),
         started,
         told: started,
@@ -74,6 +90,10 @@ impl<L: Library> Run<'_, L> {
         }
     }
 
+    fn count(&mut self, call: Counted, number: u32) {
+        self.numbers[call as usize][LAST_NUMBER.min(number as usize)] += 1;
+    }
+
     fn meets(&mut self, difference: Listed) {
         let place = differences::ALL.iter().position(|(listed, _)| *listed == difference);
         self.listed[place.expect("the list is whole")] += 1;
@@ -82,11 +102,17 @@ impl<L: Library> Run<'_, L> {
     fn fails(&mut self, call: &str, case: &str, expected: &str, answer: &str) {
         self.failures += 1;
         if self.failures <= SHOWN {
-            println!("DIFFERENT {call} of {case}\n  the Rust: {expected}\n  {}: {answer}", self.library.name());
+            println!("DIFFERENT {call} of {case}\n  owed: {expected}\n  {}: {answer}", self.library.name());
         }
     }
 
     fn summary(&self, elapsed: Duration) -> bool {
+        println!("how often each number was answered:");
+        for (call, numbers) in COUNTED.iter().zip(self.numbers) {
+            let answered = numbers.iter().enumerate().filter(|(_, times)| **times > 0);
+            let answered: Vec<String> = answered.map(|(number, times)| format!("{number}: {times}")).collect();
+            println!("  {call}: {}", answered.join(", "));
+        }
         for ((_, text), count) in differences::ALL.iter().zip(self.listed) {
             println!("listed difference, {count} times: {text}");
         }

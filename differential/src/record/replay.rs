@@ -2,6 +2,7 @@
 
 use super::format::{Orders, Record};
 use crate::calls::*;
+use crate::refusals::SHORT_BUFFER;
 
 /// How many records of a source agree.
 #[derive(Clone, PartialEq, Eq, Debug)]
@@ -69,11 +70,18 @@ fn orders<L: Library>(library: &L, first: Pair, second: Pair) -> Option<Orders> 
     })
 }
 
-/// Whether a writer answers so, and leaves the rest of its buffer. A call that is not offered does not.
-fn writes(number: u32, bytes: &[u8], write: impl FnOnce(&mut [u8]) -> Option<Written>) -> bool {
+/// Whether a writer answers so and leaves the rest of its buffer, and whether it refuses a buffer that is a byte too
+/// short. A call that is not offered does not.
+fn writes(number: u32, bytes: &[u8], write: impl Fn(&mut [u8]) -> Option<Written>) -> bool {
     let mut buffer = [0xA5; 255];
     let mut left = buffer;
     left[..bytes.len()].copy_from_slice(bytes);
     let answer = Written { number, written: bytes.len() };
-    write(&mut buffer) == Some(answer) && buffer == left
+    let fits = write(&mut buffer) == Some(answer) && buffer == left;
+    if number != 0 {
+        return fits;
+    }
+    let mut short = vec![0xA5; bytes.len() - 1];
+    let refused = Written { number: SHORT_BUFFER, written: 0 };
+    fits && write(&mut short) == Some(refused) && short.iter().all(|byte| *byte == 0xA5)
 }
