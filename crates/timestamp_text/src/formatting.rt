@@ -10,7 +10,6 @@ ghost use lib.ListN.{length};
 ghost use Rattle.ion.specs.Accepted.{Valid};
 ghost use Rattle.ion.specs.Output.{Run};
 ghost use Rattle.ion.specs.Text.{fieldsText};
-ghost use Rattle.ion.specs.Word.{InRange};
 ghost use Rattle.timestamp_text.specs.Length.{textLength};
 
 // How long the text is at a precision, with a number of digits.
@@ -37,7 +36,7 @@ fn text_length(precision: u32, digits: u32) -> usize
 
 // Writes the text of fields from index `at` on, where there is room for it; the index after it.
 pub fn text_into(b: &mut [u8], at: usize, f: Fields, attoseconds: u64) -> usize
-    requires { ⌜ (at + length (fieldsText f attoseconds) ≤ length (now b)) × InRange f × Valid f attoseconds ⌝ }
+    requires { ⌜ (at + length (fieldsText f attoseconds) ≤ length (now b)) × Valid f attoseconds ⌝ }
     ensures { λ r. ⌜ Run (now (b .entry)) at (fieldsText f attoseconds) (now (b .exit)) r ⌝ }
 {
     let precision = f.precision;
