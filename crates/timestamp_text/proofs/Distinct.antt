@@ -27,7 +27,7 @@ module _ {f g : Fields} {a b : ℕ} (v : Valid f a) (w : Valid g b) (e : fieldsT
       let r : rebuilt f a ≡ rebuilt g b = cc in
       ap (λ (x : Built). x .stamp) (sym (rebuilt-pair v) ∙ ap buildOf r ∙ rebuilt-pair w)
 
-  -- so are fields and attoseconds
+  -- valid fields and attoseconds with equal texts are equal
   pub fields-text-inj : (f ≡ g) × (a ≡ b)
   fields-text-inj =
       (fields-inj f g (valid-in-range v) (valid-in-range w) (ap wordIn same-pair), ap (λ (s : Timestamp). s .attoseconds) same-pair)

@@ -24,7 +24,12 @@ pub(crate) fn put_marked(b: &mut [u8], at: usize, mark: u8, value: u32) -> usize
 }
 
 // A point and the digits of a fraction, or nothing.
-pub(crate) fn format_fractional_seconds(b: &mut [u8], at: usize, digits: u32, attoseconds: u64) -> usize
+pub(crate) fn format_fractional_seconds(
+    b: &mut [u8],
+    at: usize,
+    digits: u32,
+    attoseconds: u64,
+) -> usize
     requires { ⌜ (at + fractionLength digits ≤ length (now b)) × (digits ≤ 18) × (attoseconds < 10 ^ 18) ⌝ }
     ensures { λ r. ⌜ Run (now (b .entry)) at (fractionText digits attoseconds) (now (b .exit)) r ⌝ }
 {
