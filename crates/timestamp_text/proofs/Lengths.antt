@@ -19,9 +19,9 @@ use Rattle.ion.specs.Text.{marked, fractionText, clockText, minutesText, offset
 use Rattle.ion.specs.declared.Fields.{Fields}
 use Rattle.ion.specs.declared.offset.Offset.{Offset}
 use Rattle.ion.specs.declared.offset.Offset.the-variants.{Unknown, Known}
-use Rattle.ion.proofs.Offsets.{back-within}
 use Rattle.text.proofs.Digits.{length-exact}
 use Rattle.fraction.proofs.Scales.{units-lt}
+use Rattle.timestamp.proofs.Valid.{valid-in-range, valid-offset}
 use Rattle.timestamp_text.specs.Fronts.{toMonth, toDay, toMinute, toSecond, toFraction}
 use Rattle.timestamp_text.specs.Length.{fractionLength, textLength}
 
@@ -76,16 +76,17 @@ either : (t : Bool) (a b : List ℕ) (m n : ℕ) → length a ≡ m → length b
 either true a b m n h k = h
 either false a b m n h k = k
 
-pub length-text : (f : Fields) (a : ℕ) → Valid f a → InRange f → length (fieldsText f a) ≡ textLength (f .precision) (f .digits)
+pub length-text : (f : Fields) (a : ℕ) → Valid f a → length (fieldsText f a) ≡ textLength (f .precision) (f .digits)
 unfolding fieldsText textLength
-length-text f a v r =
+length-text f a v =
+    let r = valid-in-range v in
     let y = length-year f (v .to-year) r in
     let mo = length-month f (v .to-year) r in
     let d = length-day f (v .to-year) r in
     let mi = length-minute f (v .to-year) r in
     let s = length-marked (code ":") (f .second) (omega arith) in
     let x = length-fraction (f .digits) a (v .digits) (v .attoseconds) in
-    let o = length-offset (offsetOf (f .offset)) (back-within (f .offset) (v .offset)) in
+    let o = length-offset (offsetOf (f .offset)) (valid-offset v) in
     let u = fractionText (f .digits) a in
     let w = offsetText (offsetOf (f .offset)) in
     either (eqb (f .precision) 0) _ _ 5 _ (omega (arith, length-append (padded 4 (f .year)) (ascii "T")))
@@ -93,3 +94,19 @@ length-text f a v r =
     (either (eqb (f .precision) 2) _ _ 11 _ (omega (arith, length-append (toDay f) (ascii "T")))
     (either (eqb (f .precision) 3) _ _ 22 _ (omega (arith, length-append (toMinute f) w))
     (omega (arith, length-append (toFraction f a) w, length-append (toSecond f) u, length-append (toMinute f) (marked (code ":") (f .second)))))))
+
+-- whatever the precision, and up to eighteen digits
+most : (t : Bool) (m n k : ℕ) → m ≤ k → n ≤ k → cond t m n ≤ k
+most true m n k h l = h
+most false m n k h l = l
+
+pub longest : (f : Fields) (a : ℕ) → Valid f a → length (fieldsText f a) ≤ 44
+unfolding textLength
+longest f a v =
+    let p = f .precision in
+    let d = f .digits in
+    let x = most (eqb d 0) 0 (1 + d) 19 (omega arith) (omega (arith, v .digits)) in
+    rw (length-text f a v)
+    (most (eqb p 0) 5 _ 44 (lit≤ tt)
+    (most (eqb p 1) 8 _ 44 (lit≤ tt)
+    (most (eqb p 2) 11 _ 44 (lit≤ tt) (most (eqb p 3) 22 _ 44 (lit≤ tt) (omega arith)))))

@@ -1,3 +1,4 @@
+pub mod Distinct
 pub mod Forms
 pub mod Lengths
 pub mod Numbers

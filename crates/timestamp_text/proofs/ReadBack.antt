@@ -13,7 +13,6 @@ use Rattle.places.proofs.Laws.{length-places}
 use Rattle.ion.specs.Ascii.{ascii}
 use Rattle.ion.specs.Padded.{digit, lastDigits, padded}
 use Rattle.ion.specs.Offset.{offsetOf, WithinDay}
-use Rattle.ion.specs.Word.{InRange}
 use Rattle.ion.specs.Fraction.{scale, cutTo}
 use Rattle.ion.specs.Stages.{withYear, withMonth, withDay, withHour, withMinute, withSecond}
 use Rattle.ion.specs.Check.{rebuilt}
@@ -24,10 +23,10 @@ use Rattle.ion.specs.ReadText.{fields, markedAt, digitRun, afterPoint, afterSec
 use Rattle.ion.specs.declared.Fields.{Fields}
 use Rattle.ion.specs.declared.BuilderFields.{BuilderFields}
 use Rattle.ion.specs.declared.offset.Offset.{Offset}
-use Rattle.ion.proofs.Offsets.{back-within}
 use Rattle.text.proofs.Digits.{padded-digits}
 use Rattle.fraction.proofs.Scales.{units-lt, cut-le}
 use Rattle.fraction.proofs.Caps.{cap-low}
+use Rattle.timestamp.proofs.Valid.{valid-in-range, valid-offset}
 use Rattle.timestamp_text.proofs.Numbers.{value-digits, run-digits}
 use Rattle.timestamp_text.proofs.Offsets.{read-offset, run-offset, offset-mark}
 
@@ -39,12 +38,18 @@ marked-is : (c n : ℕ) → n < 100 → marked c n ≡ mark c n
 unfolding marked
 marked-is c n h = rw (padded-digits 2 n (lit≤ tt) h)
 
-module _ (f : Fields) (a : ℕ) (v : Valid f a) (r : InRange f) where
+module _ (f : Fields) (a : ℕ) (v : Valid f a) where
+  month-lt : f .month < 100
+  month-lt = omega (arith, valid-in-range v)
+
+  day-lt : f .day < 100
+  day-lt = omega (arith, valid-in-range v)
+
   abbrev offsetIn : Offset
   offsetIn = offsetOf (f .offset)
 
   within : WithinDay offsetIn
-  within = back-within (f .offset) (v .offset)
+  within = valid-offset v
 
   -- the same fields at a precision and with a number of digits
   abbrev at : ℕ → ℕ → Fields
@@ -92,11 +97,11 @@ module _ (f : Fields) (a : ℕ) (v : Valid f a) (r : InRange f) where
 
   read-month : (t : List ℕ) → readText (toMonth t) ≡ afterMonth (toMonth t) (withMonth (withYear (f .year)) (f .month))
   unfolding places placesOn same markedAt afterYear
-  read-month t = read-year (mark (code "-") (f .month) ++ t) ∙ rw (value-digits 2 (f .month) t (omega arith))
+  read-month t = read-year (mark (code "-") (f .month) ++ t) ∙ rw (value-digits 2 (f .month) t month-lt)
 
   read-day : (t : List ℕ) → readText (toDay t) ≡ afterDay (toDay t) (withDay (withMonth (withYear (f .year)) (f .month)) (f .day))
   unfolding places placesOn same markedAt afterMonth
-  read-day t = read-month (mark (code "-") (f .day) ++ t) ∙ rw (value-digits 2 (f .day) t (omega arith))
+  read-day t = read-month (mark (code "-") (f .day) ++ t) ∙ rw (value-digits 2 (f .day) t day-lt)
 
   read-hour : (t : List ℕ) → readText (toHour t) ≡ afterHour (toHour t) (withHour (withDay (withMonth (withYear (f .year)) (f .month)) (f .day)) (f .hour))
   unfolding places placesOn same markedAt afterDay
@@ -116,10 +121,10 @@ module _ (f : Fields) (a : ℕ) (v : Valid f a) (r : InRange f) where
   year = padded-digits 4 (f .year) (lit≤ tt) (omega arith)
 
   month : marked (code "-") (f .month) ≡ mark (code "-") (f .month)
-  month = marked-is (code "-") (f .month) (omega arith)
+  month = marked-is (code "-") (f .month) month-lt
 
   day : marked (code "-") (f .day) ≡ mark (code "-") (f .day)
-  day = marked-is (code "-") (f .day) (omega arith)
+  day = marked-is (code "-") (f .day) day-lt
 
   hour : marked (code "T") (f .hour) ≡ mark (code "T") (f .hour)
   hour = marked-is (code "T") (f .hour) (omega arith)
@@ -202,5 +207,5 @@ module _ (f : Fields) (a : ℕ) (v : Valid f a) (r : InRange f) where
   read-at (suc (suc (suc (suc zero)))) d h k = second-read d k
   read-at (suc (suc (suc (suc (suc p))))) d h k = absurd (omega arith)
 
-pub read-text : (f : Fields) (a : ℕ) → Valid f a → InRange f → readText (fieldsText f a) ≡ fields (rebuilt f a)
-read-text f a v r = read-at f a v r (f .precision) (f .digits) (v .precision) (v .digits)
+pub read-text : (f : Fields) (a : ℕ) → Valid f a → readText (fieldsText f a) ≡ fields (rebuilt f a)
+read-text f a v = read-at f a v (f .precision) (f .digits) (v .precision) (v .digits)

@@ -3,14 +3,16 @@ use crate::date;
 use crate::offset;
 use crate::part;
 use ion::Fields;
+use ion::Timestamp;
+use ion::Written;
 use text::text_formatter;
 ghost use mathlib.Core.Path.{_≡_};
 ghost use Prim.Native.Nat.{_+_, _≤_};
 ghost use lib.ListN.{length};
 ghost use Rattle.ion.specs.Accepted.{Valid};
-ghost use Rattle.ion.specs.Output.{Run};
-ghost use Rattle.ion.specs.Text.{fieldsText};
-ghost use Rattle.ion.specs.Word.{InRange};
+ghost use Rattle.ion.specs.Check.{checkOf};
+ghost use Rattle.ion.specs.Output.{Run, putAfter, wroteAfter};
+ghost use Rattle.ion.specs.Text.{fieldsText, textOf};
 ghost use Rattle.timestamp_text.specs.Length.{textLength};
 
 // How long the text is at a precision, with a number of digits.
@@ -37,7 +39,7 @@ fn text_length(precision: u32, digits: u32) -> usize
 
 // Writes the text of fields from index `at` on, where there is room for it; the index after it.
 pub fn text_into(b: &mut [u8], at: usize, f: Fields, attoseconds: u64) -> usize
-    requires { ⌜ (at + length (fieldsText f attoseconds) ≤ length (now b)) × InRange f × Valid f attoseconds ⌝ }
+    requires { ⌜ (at + length (fieldsText f attoseconds) ≤ length (now b)) × Valid f attoseconds ⌝ }
     ensures { λ r. ⌜ Run (now (b .entry)) at (fieldsText f attoseconds) (now (b .exit)) r ⌝ }
 {
     let precision = f.precision;
@@ -62,4 +64,24 @@ pub fn text_into(b: &mut [u8], at: usize, f: Fields, attoseconds: u64) -> usize
     let second = part::put_marked(b, minute, b':', f.second);
     let fraction = part::format_fractional_seconds(b, second, f.digits, attoseconds);
     offset::format_offset(b, fraction, raw)
+}
+
+// Writes the text of a timestamp from index `at` on.
+pub fn format(buf: &mut [u8], at: usize, s: Timestamp) -> Written
+    ensures { λ r. ⌜ (r ≡ wroteAfter (checkOf s .number) (now (buf .entry)) at (textOf s)) × (now (buf .exit) ≡ putAfter (checkOf s .number) (now (buf .entry)) at (textOf s)) ⌝ }
+{
+    let number = timestamp::number_of(s);
+    if number != 0 {
+        return Written {
+            number: number,
+            written: 0,
+        };
+    }
+    let f = packed::unpack(s.packed_fields);
+    let answer = output::room(buf.len(), at, text_length(f.precision, f.digits));
+    if answer.number != 0 {
+        return answer;
+    }
+    text_into(buf, at, f, s.attoseconds);
+    answer
 }

@@ -4,4 +4,5 @@ mod formatting;
 mod offset;
 mod part;
 
+pub use formatting::format;
 pub use formatting::text_into;

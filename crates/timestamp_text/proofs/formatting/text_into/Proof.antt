@@ -8,7 +8,7 @@ use Rattle.ion.specs.Offset.{offsetOf}
 use Rattle.ion.specs.Output.{Run}
 use Rattle.ion.specs.Padded.{padded}
 use Rattle.ion.specs.Text.{marked, fractionText, offsetText, fieldsText}
-use Rattle.ion.proofs.Offsets.{back-within}
+use Rattle.timestamp.proofs.Valid.{valid-in-range, valid-offset}
 use Rattle.timestamp_text.specs.Fronts.{toMonth, toDay, toMinute, toSecond, toFraction}
 use Rattle.timestamp_text.proofs.Forms.{year-form, month-form, day-form, minute-form, second-form}
 use Rattle.timestamp_text.proofs.Lengths.{length-year, length-month, length-day, length-minute, length-marked, length-fraction, length-offset}
@@ -24,7 +24,7 @@ year c = let s = c .before .before .before in record { is = year-form (s .args .
 put-four-requires : tie.Need-put-four-requires
 put-four-requires c κs =
     let s = c .before .before .before .before in
-    (omega (arith, room-first (year (c .before)), length-year (s .args .f) (s .pre .2 .to-year) (s .pre .1)), omega (arith, s .pre .2 .to-year))
+    (omega (arith, room-first (year (c .before)), length-year (s .args .f) (s .pre .1 .to-year) (valid-in-range (s .pre .1))), omega (arith, s .pre .1 .to-year))
 
 put-byte-requires : tie.Need-put-byte-requires
 put-byte-requires c κs =
@@ -47,9 +47,9 @@ month c = let s = c .before .before .before .before in record { is = month-form 
 format-year-and-month-requires : tie.Need-format-year-and-month-requires
 format-year-and-month-requires c κs =
     let s = c .before .before .before .before .before in (
-      omega (arith, room-first (month (c .before)), length-month (s .args .f) (s .pre .2 .to-year) (s .pre .1)),
-      s .pre .2 .to-year,
-      s .pre .1,
+      omega (arith, room-first (month (c .before)), length-month (s .args .f) (s .pre .1 .to-year) (valid-in-range (s .pre .1))),
+      s .pre .1 .to-year,
+      valid-in-range (s .pre .1),
     )
 
 put-byte-requires-2 : tie.Need-put-byte-requires-2
@@ -73,9 +73,9 @@ day c = let s = c .before .before .before .before .before in record { is = day-f
 format-date-requires : tie.Need-format-date-requires
 format-date-requires c κs =
     let s = c .before .before .before .before .before .before in (
-      omega (arith, room-first (day (c .before)), length-day (s .args .f) (s .pre .2 .to-year) (s .pre .1)),
-      s .pre .2 .to-year,
-      s .pre .1,
+      omega (arith, room-first (day (c .before)), length-day (s .args .f) (s .pre .1 .to-year) (valid-in-range (s .pre .1))),
+      s .pre .1 .to-year,
+      valid-in-range (s .pre .1),
     )
 
 put-byte-requires-3 : tie.Need-put-byte-requires-3
@@ -99,9 +99,9 @@ minute c = let s = c .before .before .before .before .before .before in record {
 format-date-hour-and-minute-requires : tie.Need-format-date-hour-and-minute-requires
 format-date-hour-and-minute-requires c κs =
     let s = c .before .before .before .before .before .before .before in (
-      omega (arith, room-first (minute (c .before)), length-minute (s .args .f) (s .pre .2 .to-year) (s .pre .1)),
-      s .pre .2 .to-year,
-      s .pre .1,
+      omega (arith, room-first (minute (c .before)), length-minute (s .args .f) (s .pre .1 .to-year) (valid-in-range (s .pre .1))),
+      s .pre .1 .to-year,
+      valid-in-range (s .pre .1),
     )
 
 format-offset-requires : tie.Need-format-offset-requires
@@ -109,9 +109,8 @@ format-offset-requires c κs =
     let p = c .before .before .before in
     let t = p .before .before in
     let s = t .before .before .before .before .before .before in
-    let o = s .args .f .offset in
-    let n = length-offset (offsetOf o) (back-within o (s .pre .2 .offset)) in
-    (omega (arith, room-next (minute t) (p .format-date-hour-and-minute .ensures)), s .pre .2 .offset)
+    let n = length-offset (offsetOf (s .args .f .offset)) (valid-offset (s .pre .1)) in
+    (omega (arith, room-next (minute t) (p .format-date-hour-and-minute .ensures)), s .pre .1 .offset)
 
 returns-4 : tie.Need-returns-4
 returns-4 c =
@@ -138,9 +137,9 @@ minute-second c = record { is = refl; room = room-first (second-fraction c) }
 format-date-hour-and-minute-requires-2 : tie.Need-format-date-hour-and-minute-requires-2
 format-date-hour-and-minute-requires-2 c κs =
     let s = c .before .before .before .before .before .before .before in (
-      omega (arith, room-first (minute-second (c .before)), length-minute (s .args .f) (s .pre .2 .to-year) (s .pre .1)),
-      s .pre .2 .to-year,
-      s .pre .1,
+      omega (arith, room-first (minute-second (c .before)), length-minute (s .args .f) (s .pre .1 .to-year) (valid-in-range (s .pre .1))),
+      s .pre .1 .to-year,
+      valid-in-range (s .pre .1),
     )
 
 put-marked-requires : tie.Need-put-marked-requires
@@ -148,8 +147,8 @@ put-marked-requires c κs =
     let p = c .before .before .before in
     let n = p .before .before in
     let s = n .before .before .before .before .before .before in
-    let l = length-marked (code ":") (s .args .f .second) (omega (arith, s .pre .2 .second)) in
-    (omega (arith, room-next (minute-second n) (p .format-date-hour-and-minute2 .ensures)), omega (arith, s .pre .2 .second))
+    let l = length-marked (code ":") (s .args .f .second) (omega (arith, s .pre .1 .second)) in
+    (omega (arith, room-next (minute-second n) (p .format-date-hour-and-minute2 .ensures)), omega (arith, s .pre .1 .second))
 
 -- what is written up to the second, and with the fraction
 to-second : (c : tie.After-put-marked) → let a = c .before .before .before .before .before .before .before .before .before .before .before .before .args in Run (a .b .now) (a .at) (toSecond (a .f)) (c .put-marked .last .0) (c .put-marked .result)
@@ -162,8 +161,8 @@ format-fractional-seconds-requires c κs =
     let q = c .before .before .before in
     let n = q .before .before .before .before .before .before in
     let s = n .before .before .before .before .before .before in
-    let l = length-fraction (s .args .f .digits) (s .args .attoseconds) (s .pre .2 .digits) (s .pre .2 .attoseconds) in
-    (omega (arith, room-next (second-fraction n) (to-second q)), s .pre .2 .digits, s .pre .2 .attoseconds)
+    let l = length-fraction (s .args .f .digits) (s .args .attoseconds) (s .pre .1 .digits) (s .pre .1 .attoseconds) in
+    (omega (arith, room-next (second-fraction n) (to-second q)), s .pre .1 .digits, s .pre .1 .attoseconds)
 
 to-fraction : (c : tie.After-format-fractional-seconds) → let a = c .before .before .before .before .before .before .before .before .before .before .before .before .before .before .before .before .args in Run (a .b .now) (a .at) (toFraction (a .f) (a .attoseconds)) (c .format-fractional-seconds .last .0) (c .format-fractional-seconds .result)
 to-fraction c =
@@ -175,9 +174,8 @@ format-offset-requires-2 c κs =
     let x = c .before .before .before in
     let n = x .before .before .before .before .before .before .before .before .before .before in
     let s = n .before .before .before .before .before .before in
-    let o = s .args .f .offset in
-    let l = length-offset (offsetOf o) (back-within o (s .pre .2 .offset)) in
-    (omega (arith, room-next (second n) (to-fraction x)), s .pre .2 .offset)
+    let l = length-offset (offsetOf (s .args .f .offset)) (valid-offset (s .pre .1)) in
+    (omega (arith, room-next (second n) (to-fraction x)), s .pre .1 .offset)
 
 returns-5 : tie.Need-returns-5
 returns-5 c =

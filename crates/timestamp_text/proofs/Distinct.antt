@@ -1,0 +1,40 @@
+-- Accepted timestamps with equal texts are equal. Assumes nothing.
+use mathlib.Core.Path.{_≡_, sym, ap, _∙_}
+use Prim.Native.Nat.{ℕ}
+use Rattle.ion.specs.Word.{wordOf, fieldsOf}
+use Rattle.ion.specs.Pair.{wordIn, pairIs}
+use Rattle.ion.specs.Build.{accepted, buildOf}
+use Rattle.ion.specs.Check.{rebuilt}
+use Rattle.ion.specs.Text.{fieldsText, textOf}
+use Rattle.ion.specs.Accepted.{Valid, Accepted}
+use Rattle.ion.specs.declared.Fields.{Fields}
+use Rattle.ion.specs.declared.Timestamp.{Timestamp}
+use Rattle.ion.specs.declared.Built.{Built}
+use Rattle.packed.proofs.Words.{fields-inj}
+use Rattle.timestamp.proofs.Valid.{valid-in-range, accepted-word}
+use Rattle.timestamp.proofs.Given.{rebuilt-all, valid-builds}
+use Rattle.timestamp_text.proofs.ReadBack.{read-text}
+
+-- what the check rebuilds of valid fields is built into their pair
+rebuilt-pair : {f : Fields} {a : ℕ} → Valid f a → buildOf (rebuilt f a) ≡ accepted (pairIs (wordOf f) a)
+rebuilt-pair v = ap buildOf (rebuilt-all v) ∙ valid-builds v
+
+module _ {f g : Fields} {a b : ℕ} (v : Valid f a) (w : Valid g b) (e : fieldsText f a ≡ fieldsText g b) where
+  same-pair : pairIs (wordOf f) a ≡ pairIs (wordOf g) b
+  same-pair =
+      let p = read-text f a v in
+      let q = read-text g b w in
+      let r : rebuilt f a ≡ rebuilt g b = cc in
+      ap (λ (x : Built). x .stamp) (sym (rebuilt-pair v) ∙ ap buildOf r ∙ rebuilt-pair w)
+
+  -- valid fields and attoseconds with equal texts are equal
+  pub fields-text-inj : (f ≡ g) × (a ≡ b)
+  fields-text-inj =
+      (fields-inj f g (valid-in-range v) (valid-in-range w) (ap wordIn same-pair), ap (λ (s : Timestamp). s .attoseconds) same-pair)
+
+pub text-inj : (s t : Timestamp) → Accepted s → Accepted t → textOf s ≡ textOf t → s ≡ t
+unfolding textOf
+text-inj s t p q e =
+    ap (λ (n : ℕ). pairIs n (s .attoseconds)) (sym (accepted-word p))
+    ∙ same-pair (p .fields) (q .fields) e
+    ∙ ap (λ (n : ℕ). pairIs n (t .attoseconds)) (accepted-word q)
