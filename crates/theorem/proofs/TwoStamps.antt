@@ -23,7 +23,7 @@ use Rattle.timestamp_binary.proofs.Readings.{value-apart, value-injective}
 use Rattle.theorem.specs.TwoStamps.{utcCount, signedSize, SignOf, TwoStamps}
 use Rattle.theorem.proofs.Counts.{count-exact, signed-gap, order-sign, size-is}
 use Rattle.theorem.proofs.Bytes.{number-zero, writes, reads-back}
-use Rattle.theorem.proofs.Texts.{text-same}
+use Rattle.timestamp_text.proofs.Distinct.{text-inj}
 
 module _ (a b : Timestamp) (p : Accepted a) (q : Accepted b) where
   both : numberOfTwo a b ≡ 0
@@ -110,7 +110,7 @@ module _ (a b : Timestamp) (p : Accepted a) (q : Accepted b) where
         );
         texts-written = (writes a p (textOf a), writes b q (textOf b));
         values-written = (writes a p (valueOf a), writes b q (valueOf b));
-        texts-differ = λ n e. n (text-same a b p q e);
+        texts-differ = λ n e. n (text-inj a b p q e);
         values-differ = λ n e. n (value-injective a b p q e);
         no-beginning = λ n r. (no-beginning a b p q n r, no-beginning b a q p (λ e. n (sym e)) r);
       }
