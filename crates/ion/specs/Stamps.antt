@@ -1,7 +1,7 @@
 -- What the program `stamps` prints for an input. Assumes nothing.
 use Prim.Native.Nat.{ℕ, zero, suc}
 use Prim.Native.Char.{code}
-use mathlib.Core.Bool.{true, false}
+use mathlib.Core.Bool.{cond}
 use mathlib.Core.List.{List, [], _∷_, _++_}
 use lib.Dec.{eqb, ltb}
 use lib.ListN.{length, drop}
@@ -17,14 +17,17 @@ lineOf s = s ++ (code "\n" ∷ [])
 abbrev pub stopLine : ℕ → List ℕ
 stopLine n = lineOf (ascii "stop " ++ padded 1 n)
 
--- a line for each value, of which n are read at most
+-- a line for each value, of which n are read at most; `more` is looked at only where the value is accepted
 unfoldable pub linesOf : ℕ → List ℕ → List ℕ
 linesOf zero s = []
 linesOf (suc n) [] = []
 linesOf (suc n) (b ∷ s) =
     let r = readOf (b ∷ s) in
-    elim (eqb (r .number) 0) [ true ↦ lineOf (textOf (r .stamp)) ++ linesOf n (drop (r .taken) (b ∷ s)) | false ↦ stopLine (r .number) ]
+    let more = lineOf (textOf (r .stamp)) ++ linesOf n (drop (r .taken) (b ∷ s)) in
+    cond (eqb (r .number) 0) more (stopLine (r .number))
 
 -- an input has no more values than bytes
 unfoldable pub outputOf : List ℕ → List ℕ
-outputOf s = elim (ltb 65536 (length s)) [ true ↦ stopLine longInput | false ↦ linesOf (length s) s ]
+outputOf s =
+    let lines = linesOf (length s) s in
+    cond (ltb 65536 (length s)) (stopLine longInput) lines

@@ -1,17 +1,24 @@
 -- How long the parts of a body are, and its header. Assumes nothing.
 use mathlib.Core.Path.{_≡_, refl, sym, ap, _∙_}
-use mathlib.Core.Bool.{true}
+use mathlib.Core.Bool.{Bool, true, false, cond}
 use mathlib.Core.List.{List, [], _∷_, _++_}
-use Prim.Native.Nat.{ℕ, zero, suc, _+_, _-_, _*_, _%_, _^_, _≤_, _<_}
+use Prim.Native.Nat.{ℕ, zero, suc, _+_, _-_, _*_, _/_, _%_, _^_, _≤_, _<_}
 use native.Mathlib.Omega.{arith}
 use borrow.Author.Tests.{le-leb, lt-leb}
+use lib.Dec.{leb}
 use lib.IntN.{natAbs}
 use lib.ListN.{length, take, getD, length-append}
 use Rattle.ion.specs.VarUInt.{groups, varuint, groupCount}
 use Rattle.ion.specs.VarInt.{signed, varint, isNegative}
 use Rattle.ion.specs.Int.{int}
-use Rattle.ion.specs.Offset.{WithinDay}
-use Rattle.ion.specs.Value.{offsetBytes, varuints, fractionBytes, header}
+use Rattle.ion.specs.Offset.{WithinDay, offsetOf}
+use Rattle.ion.specs.Word.{fieldsOf}
+use Rattle.ion.specs.Pair.{wordIn}
+use Rattle.ion.specs.Fraction.{scale}
+use Rattle.ion.specs.Utc.{utcFields}
+use Rattle.ion.specs.Value.{offsetBytes, varuints, fieldList, fieldCount, fractionBytes, bodyFrom, bodyOf, header, valueOf}
+use Rattle.ion.specs.declared.Fields.{Fields}
+use Rattle.ion.specs.declared.Timestamp.{Timestamp}
 use Rattle.ion.specs.declared.offset.Offset.{Offset}
 use Rattle.ion.specs.declared.offset.Offset.the-variants.{Unknown, Known}
 use Rattle.binary.proofs.Groups.{groups-one}
@@ -79,3 +86,50 @@ one-group n h =
 pub header-long : (n : ℕ) → 13 < n → n < 128 → header n ≡ 0x6e ∷ (0x80 + n) ∷ []
 unfolding header
 header-long n h l = rw (lt-leb n 13 h) (ap (λ (t : List ℕ). 0x6e ∷ t) (one-group n l))
+
+-- ---- no body is shorter than an offset and a year
+
+offset-some : (o : Offset) → 1 ≤ length (offsetBytes o)
+unfolding offsetBytes varint
+offset-some Unknown = omega (arith, length-signed true 0, signed-some 0)
+offset-some (Known m) = omega (arith, length-signed (isNegative (m .0)) (natAbs (m .0)), signed-some (natAbs (m .0)))
+
+year-some : (p y : ℕ) (l : List ℕ) → 1 ≤ length (varuints (take (fieldCount p) (y ∷ l)))
+unfolding varuints fieldCount
+year-some p y l = go (leb 3 p)
+  where
+    at : (n : ℕ) → 0 < n → 1 ≤ length (varuints (take n (y ∷ l)))
+    at zero h = absurd (omega arith)
+    at (suc n) h = omega (arith, length-append (varuint y) (varuints (take n l)), length-varuint y, count-some y)
+
+    go : (t : Bool) → 1 ≤ length (varuints (take (cond t (p + 2) (p + 1)) (y ∷ l)))
+    go true = at (p + 2) (omega arith)
+    go false = at (p + 1) (omega arith)
+
+pub body-some : (o : Offset) (u : Fields) (c : ℕ) → 2 ≤ length (bodyFrom o u c)
+unfolding bodyFrom
+body-some o u c =
+    let l = varuints (take (fieldCount (u .precision)) (fieldList u)) in
+    let r = fractionBytes (u .digits) c in
+    omega (
+      arith,
+      length-append (offsetBytes o) (l ++ r),
+      length-append l r,
+      offset-some o,
+      year-some (u .precision) (u .year) (u .month ∷ u .day ∷ u .hour ∷ u .minute ∷ u .second ∷ []),
+    )
+
+header-some : (n : ℕ) → 1 ≤ length (header n)
+unfolding header
+header-some n = go (leb n 13)
+  where
+    go : (t : Bool) → 1 ≤ length (cond t ((0x60 + n) ∷ []) (0x6e ∷ varuint n))
+    go true = omega arith
+    go false = omega arith
+
+pub value-some : (s : Timestamp) → 3 ≤ length (valueOf s)
+unfolding valueOf bodyOf
+value-some s =
+    let f = fieldsOf (wordIn s) in
+    let b = bodyFrom (offsetOf (f .offset)) (utcFields f) (s .attoseconds / scale (f .digits)) in
+    omega (arith, length-append (header (length b)) b, header-some (length b), body-some (offsetOf (f .offset)) (utcFields f) (s .attoseconds / scale (f .digits)))

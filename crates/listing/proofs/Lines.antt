@@ -1,0 +1,86 @@
+-- The lines of an input, one value after another. Assumes nothing.
+use mathlib.Core.Path.{_≡_, refl, sym, ap, ap₂, _∙_}
+use mathlib.Core.Bool.{Bool, true, false}
+use mathlib.Core.List.{List, [], _∷_, _++_, append-assoc, append-nil}
+use Prim.Native.Nat.{ℕ, zero, suc, _+_, _-_, _*_, _≤_, _<_}
+use native.Mathlib.Omega.{arith}
+use borrow.Author.Tests.{le-ltb, lt-ltb, eq-eqb, ne-eqb, eqb-true, eqb-false}
+use lib.Dec.{eqb, ltb}
+use lib.ListN.{length, drop, length-append, length-drop}
+use Rattle.ion.specs.Refusal.{longInput}
+use Rattle.ion.specs.Text.{textOf}
+use Rattle.ion.specs.Value.{bodyOf, header, valueOf}
+use Rattle.ion.specs.ReadValue.{readOf}
+use Rattle.ion.specs.Stamps.{lineOf, stopLine, linesOf, outputOf}
+use Rattle.timestamp_binary.proofs.Readings.{read-is}
+use Rattle.timestamp_binary.proofs.Lengths.{value-some}
+
+-- a value takes at least three bytes
+pub taken-some : (s : List ℕ) → readOf s .number ≡ 0 → 3 ≤ readOf s .taken
+taken-some s e =
+    let r = read-is s e in
+    omega (arith, r .taken, value-some (readOf s .stamp))
+
+-- ---- a step
+
+pub lines-none : (n : ℕ) → linesOf n [] ≡ []
+unfolding linesOf
+lines-none zero = refl
+lines-none (suc n) = refl
+
+pub lines-more : (n : ℕ) (s : List ℕ) → 0 < length s → readOf s .number ≡ 0
+    → linesOf (suc n) s ≡ lineOf (textOf (readOf s .stamp)) ++ linesOf n (drop (readOf s .taken) s)
+unfolding linesOf
+lines-more n [] h e = absurd (omega arith)
+lines-more n (b ∷ s) h e = rw (eq-eqb (readOf (b ∷ s) .number) 0 e)
+
+pub lines-stop : (n : ℕ) (s : List ℕ) → 0 < length s → (readOf s .number ≡ 0 → ⊥) → linesOf (suc n) s ≡ stopLine (readOf s .number)
+unfolding linesOf
+lines-stop n [] h e = absurd (omega arith)
+lines-stop n (b ∷ s) h e = rw (ne-eqb (readOf (b ∷ s) .number) 0 e)
+
+-- more steps than bytes make no difference
+lines-fuel : (m n : ℕ) (s : List ℕ) → length s ≤ m → length s ≤ n → linesOf m s ≡ linesOf n s
+lines-fuel m n [] h k = lines-none m ∙ sym (lines-none n)
+lines-fuel zero n (b ∷ s) h k = absurd (omega arith)
+lines-fuel (suc m) zero (b ∷ s) h k = absurd (omega arith)
+lines-fuel (suc m) (suc n) (b ∷ s) h k = go (λ t. lines-fuel m n t) (eqb (readOf (b ∷ s) .number) 0) refl
+  where
+    go : ((t : List ℕ) → length t ≤ m → length t ≤ n → linesOf m t ≡ linesOf n t) → (t : Bool) → eqb (readOf (b ∷ s) .number) 0 ≡ t
+        → linesOf (suc m) (b ∷ s) ≡ linesOf (suc n) (b ∷ s)
+    go ih true e =
+        let z = eqb-true (readOf (b ∷ s) .number) 0 e in
+        let l = taken-some (b ∷ s) z in
+        let d = length-drop (readOf (b ∷ s) .taken) (b ∷ s) in
+        lines-more m (b ∷ s) (omega arith) z
+        ∙ ap (λ (x : List ℕ). lineOf (textOf (readOf (b ∷ s) .stamp)) ++ x) (ih (drop (readOf (b ∷ s) .taken) (b ∷ s)) (omega arith) (omega arith))
+        ∙ sym (lines-more n (b ∷ s) (omega arith) z)
+    go ih false e =
+        let z = eqb-false (readOf (b ∷ s) .number) 0 e in
+        lines-stop m (b ∷ s) (omega arith) z ∙ sym (lines-stop n (b ∷ s) (omega arith) z)
+
+-- ---- the lines of all of an input
+
+abbrev pub lines : List ℕ → List ℕ
+lines s = linesOf (length s) s
+
+pub next-line : (s : List ℕ) → 0 < length s → readOf s .number ≡ 0
+    → lines s ≡ lineOf (textOf (readOf s .stamp)) ++ lines (drop (readOf s .taken) s)
+next-line [] h e = absurd (omega arith)
+next-line (b ∷ s) h e =
+    let t = drop (readOf (b ∷ s) .taken) (b ∷ s) in
+    lines-more (length s) (b ∷ s) h e
+    ∙ ap (λ (x : List ℕ). lineOf (textOf (readOf (b ∷ s) .stamp)) ++ x)
+    (lines-fuel (length s) (length t) t (omega (arith, length-drop (readOf (b ∷ s) .taken) (b ∷ s), taken-some (b ∷ s) e)) (omega arith))
+
+pub last-line : (s : List ℕ) → 0 < length s → (readOf s .number ≡ 0 → ⊥) → lines s ≡ stopLine (readOf s .number)
+last-line [] h e = absurd (omega arith)
+last-line (b ∷ s) h e = lines-stop (length s) (b ∷ s) h e
+
+pub output-long : (s : List ℕ) → 65536 < length s → outputOf s ≡ stopLine longInput
+unfolding outputOf
+output-long s h = rw (lt-ltb 65536 (length s) h)
+
+pub output-lines : (s : List ℕ) → length s ≤ 65536 → outputOf s ≡ lines s
+unfolding outputOf
+output-lines s h = rw (le-ltb 65536 (length s) h)

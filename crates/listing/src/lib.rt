@@ -1,0 +1,1 @@
+// The lines that the program `stamps` prints for an input.
