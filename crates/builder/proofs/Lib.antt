@@ -1,0 +1,2 @@
+-- The laws of the builder's stages. Assumes nothing.
+pub mod Given

@@ -1,0 +1,31 @@
+// A date and a time with a fraction of the second were given.
+use crate::HasFractionalSeconds;
+use crate::HasOffset;
+use crate::offset::from_local;
+use crate::offset::from_utc;
+use ion::BuilderOffset;
+use ion::Built;
+ghost use mathlib.Core.Path.{_≡_};
+ghost use Rattle.ion.specs.Offset.{minutesIs};
+ghost use Rattle.ion.specs.Build.{buildOf};
+ghost use Rattle.ion.specs.Stages.{withOffset};
+
+impl HasFractionalSeconds {
+    pub fn with_offset(self, minutes: i32) -> HasOffset
+        ensures { λ r. ⌜ r .fields ≡ withOffset (self .fields) (BuilderOffset.FromLocalFields (minutesIs minutes)) ⌝ }
+    {
+        from_local(self.fields, minutes)
+    }
+
+    pub fn localize_to_offset(self, minutes: i32) -> HasOffset
+        ensures { λ r. ⌜ r .fields ≡ withOffset (self .fields) (BuilderOffset.FromUtcFields (minutesIs minutes)) ⌝ }
+    {
+        from_utc(self.fields, minutes)
+    }
+
+    pub fn build(self) -> Built
+        ensures { λ r. ⌜ r ≡ buildOf (self .fields) ⌝ }
+    {
+        timestamp::build(self.fields)
+    }
+}

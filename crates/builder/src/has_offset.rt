@@ -1,0 +1,13 @@
+// An offset was given last.
+use crate::HasOffset;
+use ion::Built;
+ghost use mathlib.Core.Path.{_≡_};
+ghost use Rattle.ion.specs.Build.{buildOf};
+
+impl HasOffset {
+    pub fn build(self) -> Built
+        ensures { λ r. ⌜ r ≡ buildOf (self .fields) ⌝ }
+    {
+        timestamp::build(self.fields)
+    }
+}

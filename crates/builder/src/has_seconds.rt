@@ -1,0 +1,82 @@
+// A date and a time to the second were given.
+use crate::HasFractionalSeconds;
+use crate::HasOffset;
+use crate::HasSeconds;
+use crate::offset::from_local;
+use crate::offset::from_utc;
+use ion::BuilderFields;
+use ion::BuilderOffset;
+use ion::Built;
+use ion::Decimal;
+use ion::Fraction;
+ghost use mathlib.Core.Path.{_≡_};
+ghost use Rattle.ion.specs.Offset.{minutesIs};
+ghost use Rattle.ion.specs.Fraction.{milliseconds, microseconds, nanoseconds, nanosecondsTo, decimal};
+ghost use Rattle.ion.specs.Build.{buildOf};
+ghost use Rattle.ion.specs.Stages.{withFraction, withOffset};
+
+fn with_fraction(fields: BuilderFields, x: Fraction) -> HasFractionalSeconds
+    ensures { λ r. ⌜ r .fields ≡ withFraction fields x ⌝ }
+{
+    HasFractionalSeconds {
+        fields: BuilderFields {
+            attoseconds: x.attoseconds,
+            digits: x.digits,
+            ..fields
+        },
+    }
+}
+
+impl HasSeconds {
+    pub fn with_milliseconds(self, n: u32) -> HasFractionalSeconds
+        ensures { λ r. ⌜ r .fields ≡ withFraction (self .fields) (milliseconds n) ⌝ }
+    {
+        with_fraction(self.fields, fraction::from_milliseconds(n))
+    }
+
+    pub fn with_microseconds(self, n: u32) -> HasFractionalSeconds
+        ensures { λ r. ⌜ r .fields ≡ withFraction (self .fields) (microseconds n) ⌝ }
+    {
+        with_fraction(self.fields, fraction::from_microseconds(n))
+    }
+
+    pub fn with_nanoseconds(self, n: u32) -> HasFractionalSeconds
+        ensures { λ r. ⌜ r .fields ≡ withFraction (self .fields) (nanoseconds n) ⌝ }
+    {
+        with_fraction(self.fields, fraction::from_nanoseconds(n))
+    }
+
+    // Nanoseconds cut toward zero to a number of digits.
+    pub fn with_nanoseconds_and_precision(self, n: u32, digits: u32) -> HasFractionalSeconds
+        ensures { λ r. ⌜ r .fields ≡ withFraction (self .fields) (nanosecondsTo n digits) ⌝ }
+    {
+        with_fraction(
+            self.fields,
+            fraction::from_nanoseconds_and_precision(n, digits),
+        )
+    }
+
+    pub fn with_fractional_seconds(self, d: Decimal) -> HasFractionalSeconds
+        ensures { λ r. ⌜ r .fields ≡ withFraction (self .fields) (decimal d) ⌝ }
+    {
+        with_fraction(self.fields, fraction::from_decimal(d))
+    }
+
+    pub fn with_offset(self, minutes: i32) -> HasOffset
+        ensures { λ r. ⌜ r .fields ≡ withOffset (self .fields) (BuilderOffset.FromLocalFields (minutesIs minutes)) ⌝ }
+    {
+        from_local(self.fields, minutes)
+    }
+
+    pub fn localize_to_offset(self, minutes: i32) -> HasOffset
+        ensures { λ r. ⌜ r .fields ≡ withOffset (self .fields) (BuilderOffset.FromUtcFields (minutesIs minutes)) ⌝ }
+    {
+        from_utc(self.fields, minutes)
+    }
+
+    pub fn build(self) -> Built
+        ensures { λ r. ⌜ r ≡ buildOf (self .fields) ⌝ }
+    {
+        timestamp::build(self.fields)
+    }
+}
