@@ -1,1 +1,4 @@
+pub mod Orders
 pub mod Gaps
+pub mod Clocks
+pub mod Checked

@@ -1,11 +1,12 @@
 -- The local minutes and seconds of valid fields. Assumes nothing.
 use Prim.Native.Nat.{ℕ, _+_, _*_, _≤_, _<_}
-use lib.IntN.{ℤ, pos, negℤ, natAbs, _+ℤ_, _-ℤ_, _*ℤ_}
+use lib.IntN.{ℤ, pos, negℤ, natAbs, _-ℤ_}
 use Rattle.integers.specs.Floor.{_plus_}
 use Rattle.ion.specs.Shift.{IsDateTime, minuteNumber}
 use Rattle.ion.specs.Accepted.{timeIn}
 use Rattle.ion.specs.Count.{offsetIn}
 use Rattle.ion.specs.declared.Fields.{Fields}
+use Rattle.order.specs.declared.seconds.Seconds.{Seconds}
 
 -- what the order needs of the fields of an accepted timestamp
 pub record IsLocal (f : Fields) : Type 0 where
@@ -15,12 +16,18 @@ pub record IsLocal (f : Fields) : Type 0 where
   pub second : f .second ≤ 59
   pub offset : natAbs (offsetIn f) < 1440
 
+-- whole seconds by a clock that is a number of minutes ahead of the local one
+abbrev pub secondsAt : Fields → ℤ → ℕ
+secondsAt f z = (minuteNumber (timeIn f) plus z) * 60 + f .second
+
 -- whole seconds in UTC
 abbrev pub utcSeconds : Fields → ℕ
-utcSeconds f = (minuteNumber (timeIn f) plus negℤ (offsetIn f)) * 60 + f .second
+utcSeconds f = secondsAt f (negℤ (offsetIn f))
 
--- those of the first less those of the second: the offsets are subtracted between them
-abbrev pub secondsApart : Fields → Fields → ℤ
-secondsApart f g =
-    (pos (minuteNumber (timeIn f)) -ℤ (pos (minuteNumber (timeIn g)) +ℤ (offsetIn f -ℤ offsetIn g))) *ℤ pos 60
-    +ℤ (pos (f .second) -ℤ pos (g .second))
+-- how many minutes the local clock of the first is ahead of that of the second
+abbrev pub aheadOf : Fields → Fields → ℤ
+aheadOf f g = offsetIn f -ℤ offsetIn g
+
+-- the whole seconds of the two by the local clock of the first
+abbrev pub bySameClock : Fields → Fields → Seconds
+bySameClock f g = record { first = secondsAt f (pos 0); second = secondsAt g (aheadOf f g) }

@@ -1,1 +1,116 @@
-// Order, equality and distance of two timestamps.
+// Order, equality and distance of two timestamps, the first checked before the second.
+mod accepted;
+mod counts;
+mod seconds;
+
+use accepted::distance_of;
+use accepted::order_of;
+use counts::order_of_pairs;
+use ion::Compared;
+use ion::Distance;
+use ion::Ordered;
+use ion::Timestamp;
+ghost use mathlib.Core.Path.{_≡_};
+ghost use Rattle.ion.specs.Order.{numberOfTwo, cmpOf, eqOf, ionEqOf, ionCmpOf, distanceOf};
+
+// The first number of the two checks that is not 0.
+fn number_of_two(s: Timestamp, t: Timestamp) -> u32
+    ensures { λ r. ⌜ r ≡ numberOfTwo s t ⌝ }
+{
+    if !timestamp::is_accepted(s) {
+        return timestamp::number_of(s);
+    }
+    if !timestamp::is_accepted(t) {
+        return timestamp::number_of(t);
+    }
+    0
+}
+
+// -1, 0 or 1, by the instants.
+pub fn cmp(s: Timestamp, t: Timestamp) -> Ordered
+    ensures { λ r. ⌜ r ≡ cmpOf s t ⌝ }
+{
+    let n = number_of_two(s, t);
+    if n != 0 {
+        return Ordered {
+            number: n,
+            order: 0,
+        };
+    }
+    Ordered {
+        number: 0,
+        order: order_of(s, t),
+    }
+}
+
+// Whether the instants are equal.
+pub fn eq(s: Timestamp, t: Timestamp) -> Compared
+    ensures { λ r. ⌜ r ≡ eqOf s t ⌝ }
+{
+    let n = number_of_two(s, t);
+    if n != 0 {
+        return Compared {
+            number: n,
+            equal: false,
+        };
+    }
+    Compared {
+        number: 0,
+        equal: order_of(s, t) == 0,
+    }
+}
+
+// Whether the pairs are equal.
+pub fn ion_eq(s: Timestamp, t: Timestamp) -> Compared
+    ensures { λ r. ⌜ r ≡ ionEqOf s t ⌝ }
+{
+    let n = number_of_two(s, t);
+    if n != 0 {
+        return Compared {
+            number: n,
+            equal: false,
+        };
+    }
+    Compared {
+        number: 0,
+        equal: (s.packed_fields == t.packed_fields) & (s.attoseconds == t.attoseconds),
+    }
+}
+
+// -1, 0 or 1, by the packed words and then by the attoseconds.
+pub fn ion_cmp(s: Timestamp, t: Timestamp) -> Ordered
+    ensures { λ r. ⌜ r ≡ ionCmpOf s t ⌝ }
+{
+    let n = number_of_two(s, t);
+    if n != 0 {
+        return Ordered {
+            number: n,
+            order: 0,
+        };
+    }
+    Ordered {
+        number: 0,
+        order: order_of_pairs(
+            s.packed_fields,
+            s.attoseconds,
+            t.packed_fields,
+            t.attoseconds,
+        ),
+    }
+}
+
+// The sign of the first less the second, and the size of the difference.
+pub fn distance(s: Timestamp, t: Timestamp) -> Distance
+    ensures { λ r. ⌜ r ≡ distanceOf s t ⌝ }
+{
+    let n = number_of_two(s, t);
+    if n != 0 {
+        return Distance {
+            number: n,
+            sign: 0,
+            seconds: 0,
+            attoseconds: 0,
+        };
+    }
+    distance_of(s, t)
+}

@@ -1,0 +1,90 @@
+-- Two local times by one clock lie as the two instants do. Assumes nothing.
+use mathlib.Core.Path.{_≡_, sym, ap, ap₂, _∙_}
+use Prim.Native.Nat.{ℕ, _+_, _*_, _^_, _≤_, _<_}
+use native.Mathlib.Omega.{arith}
+use lib.IntN.{ℤ, pos, negℤ, natAbs, _+ℤ_, _-ℤ_}
+use Rattle.integers.specs.Floor.{_plus_}
+use Rattle.integers.proofs.Parts.{Gives, up, down, apart, add-parts, sub-parts, neg-parts, plus-parts, natAbs-parts}
+use Rattle.ion.specs.Offset.{WithinDay, offsetOf, minutesOf}
+use Rattle.ion.specs.Accepted.{timeIn, dateIn, Valid}
+use Rattle.ion.specs.Shift.{minuteNumber}
+use Rattle.ion.specs.Count.{offsetIn, countIn}
+use Rattle.ion.specs.Order.{orderOf, gapOf}
+use Rattle.ion.specs.declared.Fields.{Fields}
+use Rattle.ion.specs.declared.offset.Offset.{Offset}
+use Rattle.ion.specs.declared.offset.Offset.the-variants.{Unknown, Known}
+use Rattle.calendar.proofs.Dates.{after-year-zero, day-number-below}
+use Rattle.timestamp.proofs.Valid.{valid-time, valid-offset}
+use Rattle.order.specs.Local.{IsLocal, secondsAt, utcSeconds, aheadOf}
+use Rattle.order.specs.Counts.{orderOfPairs, distanceBy, distanceOfCounts}
+use Rattle.order.proofs.Orders.{Alike, shift-alike, order-alike, pairs-alike}
+use Rattle.order.proofs.Gaps.{gap-shift, shift-counts, pairs-count}
+
+-- ---- valid fields
+
+within-day : (o : Offset) → WithinDay o → natAbs (minutesOf o) < 1440
+within-day Unknown h = omega arith
+within-day (Known m) h = h
+
+pub valid-local : {f : Fields} {a : ℕ} → Valid f a → IsLocal f
+valid-local {f} v =
+    record {
+      time = valid-time v;
+      from-year = v .from-year;
+      to-year = v .to-year;
+      second = v .second;
+      offset = within-day (offsetOf (f .offset)) (valid-offset v);
+    }
+
+module _ (f : Fields) (p : IsLocal f) where
+  pub minutes-below : minuteNumber (timeIn f) + 2880 < 2 ^ 33
+  minutes-below = omega (arith, day-number-below (dateIn f) (p .time .date) (omega (arith, p .to-year)), p .time .hours, p .time .minutes)
+
+  -- from year 1 on there are two days to take away
+  pub minutes-room : (z : ℤ) → natAbs z < 2880 → down z ≤ minuteNumber (timeIn f)
+  minutes-room z h = omega (arith, after-year-zero (dateIn f) (p .from-year), natAbs-parts z)
+
+  -- minutes moved, as the code moves them
+  module _ (z : ℤ) (h : natAbs z < 2880) where
+    abbrev n : ℕ
+    n = minuteNumber (timeIn f)
+
+    pub moved-gives : Gives (pos n +ℤ z) (n plus z)
+    moved-gives = omega (arith, add-parts (pos n) z, apart (pos n +ℤ z), plus-parts n z (minutes-room z h))
+
+    pub moved-below : n plus z < 2 ^ 33
+    moved-below = omega (arith, minutes-below, natAbs-parts z, plus-parts n z (minutes-room z h))
+
+  -- in UTC
+  pub utc-parts : (minuteNumber (timeIn f) plus negℤ (offsetIn f)) + up (offsetIn f) ≡ minuteNumber (timeIn f) + down (offsetIn f)
+  utc-parts =
+      let o = offsetIn f in
+      let m = negℤ o in
+      omega (arith, neg-parts o, plus-parts (minuteNumber (timeIn f)) m (minutes-room m (omega (arith, p .offset, natAbs-parts o, natAbs-parts m, neg-parts o))))
+
+module _ (f g : Fields) (p : IsLocal f) (q : IsLocal g) where
+  pub ahead-small : natAbs (aheadOf f g) < 2880
+  ahead-small =
+      let o = offsetIn f in
+      let r = offsetIn g in
+      omega (arith, p .offset, q .offset, natAbs-parts o, natAbs-parts r, natAbs-parts (o -ℤ r), sub-parts o r, apart (o -ℤ r))
+
+  -- by the clock of the first both are as far from UTC
+  pub same-clock : secondsAt f (pos 0) + utcSeconds g ≡ secondsAt g (aheadOf f g) + utcSeconds f
+  same-clock =
+      let z = aheadOf f g in
+      omega (arith, utc-parts f p, utc-parts g q, plus-parts (minuteNumber (timeIn g)) z (minutes-room g q z ahead-small), sub-parts (offsetIn f) (offsetIn g))
+
+  module _ (a b : ℕ) (h : a < 10 ^ 18) (k : b < 10 ^ 18) where
+    -- seconds that lie as those in UTC do, and then the attoseconds, give the order of the counts
+    pub order-by : (m n : ℕ) → Alike m n (utcSeconds f) (utcSeconds g) → orderOfPairs m a n b ≡ orderOf (countIn f a) (countIn g b)
+    order-by m n l = pairs-alike l a b ∙ pairs-count (10 ^ 18) (utcSeconds f) (utcSeconds g) a b h k
+
+    pub order-is : orderOfPairs (secondsAt f (pos 0)) a (secondsAt g (aheadOf f g)) b ≡ orderOf (countIn f a) (countIn g b)
+    order-is = order-by _ _ (shift-alike _ _ _ _ same-clock)
+
+    counts-shift : (secondsAt f (pos 0) * 10 ^ 18 + a) + countIn g b ≡ (secondsAt g (aheadOf f g) * 10 ^ 18 + b) + countIn f a
+    counts-shift = shift-counts (10 ^ 18) (secondsAt f (pos 0)) (secondsAt g (aheadOf f g)) (utcSeconds f) (utcSeconds g) a b same-clock
+
+    pub distance-is : distanceOfCounts (secondsAt f (pos 0) * 10 ^ 18 + a) (secondsAt g (aheadOf f g) * 10 ^ 18 + b) ≡ distanceOfCounts (countIn f a) (countIn g b)
+    distance-is = ap₂ distanceBy (order-alike (shift-alike _ _ _ _ counts-shift)) (gap-shift _ _ _ _ counts-shift)

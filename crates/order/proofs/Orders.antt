@@ -1,0 +1,91 @@
+-- The order of two numbers, and of two pairs of numbers, by that of two others. Assumes nothing.
+use mathlib.Core.Path.{_≡_, sym, ap, _∙_}
+use mathlib.Core.Bool.{true, false, true≢false, false≢true}
+use Prim.Native.Nat.{ℕ, _+_, _≤_, _<_}
+use native.Mathlib.Decide.{decLt, ℕ-discrete}
+use native.Mathlib.Omega.{arith}
+use lib.Dec.{eqb}
+use lib.IntN.{ℤ, pos, negsuc}
+use lib.Signed.{ltZ}
+use mir.Syntax.{w32}
+use mir.Val.{ofZ}
+use borrow.Author.Tests.{lt-ltb, le-ltb, eq-eqb, ne-eqb}
+use Rattle.ion.specs.Order.{orderOf}
+use Rattle.order.specs.Counts.{orderOfPairs}
+
+pub order-less : (m n : ℕ) → m < n → orderOf m n ≡ negsuc 0
+order-less m n h = rw (lt-ltb m n h)
+
+pub order-more : (m n : ℕ) → n < m → orderOf m n ≡ pos 1
+order-more m n h = let k : n ≤ m = omega arith in rw (le-ltb m n k, lt-ltb n m h)
+
+pub order-same : (m n : ℕ) → m ≡ n → orderOf m n ≡ pos 0
+order-same m n h = let k : n ≤ m = omega arith in let l : m ≤ n = omega arith in rw (le-ltb m n k, le-ltb n m l)
+
+-- what the sign says
+pub order-negative : (m n : ℕ) → ltZ (orderOf m n) (pos 0) ≡ true → m < n
+order-negative m n e = go (decLt m n) (decLt n m)
+  where
+    go : Dec (m < n) → Dec (n < m) → m < n
+    go (yes h) l = h
+    go (no h) (yes l) = absurd (false≢true (ap (λ (z : ℤ). ltZ z (pos 0)) (sym (order-more m n l)) ∙ e))
+    go (no h) (no l) = absurd (false≢true (ap (λ (z : ℤ). ltZ z (pos 0)) (sym (order-same m n (omega arith))) ∙ e))
+
+pub order-not-negative : (m n : ℕ) → ltZ (orderOf m n) (pos 0) ≡ false → n ≤ m
+order-not-negative m n e = go (decLt m n)
+  where
+    go : Dec (m < n) → n ≤ m
+    go (yes h) = absurd (true≢false (ap (λ (z : ℤ). ltZ z (pos 0)) (sym (order-less m n h)) ∙ e))
+    go (no h) = omega arith
+
+-- the sign's bits are 0 where the numbers are equal
+pub order-zero : (m n : ℕ) → eqb (ofZ w32 (orderOf m n)) 0 ≡ eqb m n
+order-zero m n = go (decLt m n) (decLt n m)
+  where
+    bits : {z : ℤ} → orderOf m n ≡ z → eqb (ofZ w32 (orderOf m n)) 0 ≡ eqb (ofZ w32 z) 0
+    bits e = ap (λ (z : ℤ). eqb (ofZ w32 z) 0) e
+
+    go : Dec (m < n) → Dec (n < m) → eqb (ofZ w32 (orderOf m n)) 0 ≡ eqb m n
+    go (yes h) l = bits (order-less m n h) ∙ sym (ne-eqb m n (λ e. omega arith))
+    go (no h) (yes l) = bits (order-more m n l) ∙ sym (ne-eqb m n (λ e. omega arith))
+    go (no h) (no l) = let e : m ≡ n = omega arith in bits (order-same m n e) ∙ sym (eq-eqb m n e)
+
+-- the first numbers decide where they differ, else the second
+pub pairs-first : (m a n b : ℕ) → (m ≡ n → ⊥) → orderOfPairs m a n b ≡ orderOf m n
+pairs-first m a n b h = simp (ne-eqb m n h)
+
+pub pairs-second : (m a n b : ℕ) → m ≡ n → orderOfPairs m a n b ≡ orderOf a b
+pairs-second m a n b e = simp (eq-eqb m n e)
+
+-- two numbers lie as two others do
+pub record Alike (m n s t : ℕ) : Type 0 where
+  pub less : m < n → s < t
+  pub same : m ≡ n → s ≡ t
+  pub more : n < m → t < s
+
+module _ {m n s t : ℕ} (k : Alike m n s t) where
+  pub order-alike : orderOf m n ≡ orderOf s t
+  order-alike = go (decLt m n) (decLt n m)
+    where
+      go : Dec (m < n) → Dec (n < m) → orderOf m n ≡ orderOf s t
+      go (yes h) l = order-less m n h ∙ sym (order-less s t (k .less h))
+      go (no h) (yes l) = order-more m n l ∙ sym (order-more s t (k .more l))
+      go (no h) (no l) = let e : m ≡ n = omega arith in order-same m n e ∙ sym (order-same s t (k .same e))
+
+  differ : (m ≡ n → ⊥) → s ≡ t → ⊥
+  differ h e = go (decLt m n)
+    where
+      go : Dec (m < n) → ⊥
+      go (yes l) = omega (arith, k .less l)
+      go (no l) = omega (arith, k .more (omega (arith, h)))
+
+  pub pairs-alike : (a b : ℕ) → orderOfPairs m a n b ≡ orderOfPairs s a t b
+  pairs-alike a b = go (ℕ-discrete m n)
+    where
+      go : Dec (m ≡ n) → orderOfPairs m a n b ≡ orderOfPairs s a t b
+      go (yes e) = simp (eq-eqb m n e, eq-eqb s t (k .same e))
+      go (no h) = simp (ne-eqb m n h, ne-eqb s t (differ h)) order-alike
+
+-- both are as far from the others
+pub shift-alike : (m n s t : ℕ) → m + t ≡ n + s → Alike m n s t
+shift-alike m n s t e = record { less = λ h. omega arith; same = λ h. omega arith; more = λ h. omega arith }

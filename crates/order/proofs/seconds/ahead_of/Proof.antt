@@ -1,0 +1,34 @@
+-- `order::seconds::ahead_of` meets its contract. Assumes nothing.
+use mathlib.Core.Path.{_≡_, sym, ap, ap₂, subst, _∙_}
+use Prim.Native.Nat.{_<_}
+use lib.IntN.{ℤ, natAbs, _-ℤ_}
+use mir.Facts.{toZ-ofZ}
+use borrow.Author.Needs.{needs, sfits-of}
+use Rattle.ion.specs.Offset.{minutesOf}
+use Rattle.ion.specs.Count.{offsetIn}
+use Rattle.ion.specs.declared.offset.OffsetMinutes.{OffsetMinutes}
+use Rattle.ion.specs.declared.offset.Offset.{Offset}
+use Rattle.order.proofs.seconds.ahead_of.Statement.{statement}
+use Rattle.order.proofs.seconds.ahead_of.Tie as tie
+
+-- the two offsets in minutes
+first : (c : tie.After-minutes-of) → c .minutes-of .result .0 ≡ offsetIn (c .before .before .args .f)
+first c = ap (λ (m : OffsetMinutes). m .0) (c .minutes-of .ensures) ∙ ap minutesOf (c .before .offset-of .ensures)
+
+second : (c : tie.After-minutes-of2) → c .minutes-of2 .result .0 ≡ offsetIn (c .before .before .before .before .args .g)
+second c = ap (λ (m : OffsetMinutes). m .0) (c .minutes-of2 .ensures) ∙ ap minutesOf (c .before .offset-of2 .ensures)
+
+less-requires : tie.Need-less-requires
+less-requires c κs =
+    let p = c .before .before .before .before .pre in (
+      subst (λ (z : ℤ). natAbs z < 1440) (sym (first (c .before .before))) (p .0 .offset),
+      subst (λ (z : ℤ). natAbs z < 1440) (sym (second c)) (p .1 .offset),
+    )
+
+returns : tie.Need-returns
+returns c = toZ-ofZ (sfits-of (c .less .ok)) ∙ c .less .ensures ∙ ap₂ _-ℤ_ (first (c .before .before .before)) (second (c .before))
+
+pub ahead-of-spec : {M : Type 1} → statement M
+ahead-of-spec =
+    tie.close
+    (tie.spec (λ c κs. search needs) (λ c κs. search needs) (λ c κs. search needs) (λ c κs. search needs) less-requires returns)

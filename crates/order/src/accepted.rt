@@ -1,0 +1,28 @@
+// Order and distance of the instants of two accepted timestamps.
+use crate::counts::distance_of_counts;
+use crate::counts::order_of_pairs;
+use crate::seconds::by_same_clock;
+use ion::Distance;
+use ion::Timestamp;
+ghost use mathlib.Core.Path.{_≡_};
+ghost use Rattle.ion.specs.Accepted.{Accepted};
+ghost use Rattle.ion.specs.Count.{countOf};
+ghost use Rattle.ion.specs.Order.{orderOf};
+ghost use Rattle.order.specs.Counts.{distanceOfCounts};
+
+// -1, 0 or 1.
+pub(crate) fn order_of(s: Timestamp, t: Timestamp) -> i32
+    requires { ⌜ Accepted s × Accepted t ⌝ }
+    ensures { λ r. ⌜ r ≡ orderOf (countOf s) (countOf t) ⌝ }
+{
+    let seconds = by_same_clock(s, t);
+    order_of_pairs(seconds.first, s.attoseconds, seconds.second, t.attoseconds)
+}
+
+pub(crate) fn distance_of(s: Timestamp, t: Timestamp) -> Distance
+    requires { ⌜ Accepted s × Accepted t ⌝ }
+    ensures { λ r. ⌜ r ≡ distanceOfCounts (countOf s) (countOf t) ⌝ }
+{
+    let seconds = by_same_clock(s, t);
+    distance_of_counts(seconds.first, s.attoseconds, seconds.second, t.attoseconds)
+}
