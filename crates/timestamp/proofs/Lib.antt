@@ -11,3 +11,4 @@ pub mod Accepts
 pub mod Decides
 pub mod Tested
 pub mod UtcForm
+pub mod Told

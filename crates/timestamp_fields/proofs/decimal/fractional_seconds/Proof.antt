@@ -16,7 +16,7 @@ use Rattle.ion.specs.Check.{checkOf}
 use Rattle.ion.specs.Reads.{decimalIn, zeroDecimal, decimalFieldOf}
 use Rattle.ion.specs.declared.Decimal.{Decimal}
 use Rattle.fraction.proofs.Scales.{scale-pos}
-use Rattle.timestamp_fields.proofs.Told.{if-zero, if-refused}
+use Rattle.timestamp.proofs.Told.{if-zero, if-refused}
 use Rattle.timestamp_fields.proofs.decimal.fractional_seconds.Statement.{statement}
 use Rattle.timestamp_fields.proofs.decimal.fractional_seconds.Tie as tie
 

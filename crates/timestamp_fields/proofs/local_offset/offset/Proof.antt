@@ -7,7 +7,7 @@ use Rattle.ion.specs.Pair.{wordIn}
 use Rattle.ion.specs.Check.{checkOf}
 use Rattle.ion.specs.Reads.{offsetFieldOf}
 use Rattle.ion.specs.declared.offset.Offset.the-variants.{Unknown}
-use Rattle.timestamp_fields.proofs.Told.{if-zero, if-refused}
+use Rattle.timestamp.proofs.Told.{if-zero, if-refused}
 use Rattle.timestamp_fields.proofs.local_offset.offset.Statement.{statement}
 use Rattle.timestamp_fields.proofs.local_offset.offset.Tie as tie
 

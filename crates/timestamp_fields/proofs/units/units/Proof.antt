@@ -10,7 +10,7 @@ use Rattle.ion.specs.Check.{checkOf}
 use Rattle.ion.specs.Reads.{unitsOf}
 use Rattle.fraction.proofs.Scales.{scale-pos, units-lt}
 use Rattle.timestamp.proofs.Accepts.{check-gives}
-use Rattle.timestamp_fields.proofs.Told.{if-zero, if-refused}
+use Rattle.timestamp.proofs.Told.{if-zero, if-refused}
 use Rattle.timestamp_fields.proofs.units.units.Statement.{statement}
 use Rattle.timestamp_fields.proofs.units.units.Tie as tie
 

@@ -3,7 +3,7 @@ use mathlib.Core.Path.{_≡_, sym, _∙_}
 use borrow.Author.Needs.{needs}
 use Rattle.ion.specs.Check.{checkOf}
 use Rattle.ion.specs.Reads.{attosecondsFieldOf}
-use Rattle.timestamp_fields.proofs.Told.{if-zero, if-refused}
+use Rattle.timestamp.proofs.Told.{if-zero, if-refused}
 use Rattle.timestamp_fields.proofs.whole.attoseconds.Statement.{statement}
 use Rattle.timestamp_fields.proofs.whole.attoseconds.Tie as tie
 
