@@ -40,24 +40,32 @@ lines-stop n [] h e = absurd (omega arith)
 lines-stop n (b ∷ s) h e = rw (ne-eqb (readOf (b ∷ s) .number) 0 e)
 
 -- more steps than bytes make no difference
+no-bytes : (n : ℕ) (s : List ℕ) → length s ≤ 0 → linesOf n s ≡ []
+no-bytes n [] h = lines-none n
+no-bytes n (b ∷ s) h = absurd (omega arith)
+
 lines-fuel : (m n : ℕ) (s : List ℕ) → length s ≤ m → length s ≤ n → linesOf m s ≡ linesOf n s
-lines-fuel m n [] h k = lines-none m ∙ sym (lines-none n)
-lines-fuel zero n (b ∷ s) h k = absurd (omega arith)
-lines-fuel (suc m) zero (b ∷ s) h k = absurd (omega arith)
-lines-fuel (suc m) (suc n) (b ∷ s) h k = go (λ t. lines-fuel m n t) (eqb (readOf (b ∷ s) .number) 0) refl
+lines-fuel zero n s h k = no-bytes zero s h ∙ sym (no-bytes n s h)
+lines-fuel (suc m) zero s h k = no-bytes (suc m) s k ∙ sym (no-bytes zero s k)
+lines-fuel (suc m) (suc n) s h k = go (λ t. lines-fuel m n t) s h k
   where
-    go : ((t : List ℕ) → length t ≤ m → length t ≤ n → linesOf m t ≡ linesOf n t) → (t : Bool) → eqb (readOf (b ∷ s) .number) 0 ≡ t
-        → linesOf (suc m) (b ∷ s) ≡ linesOf (suc n) (b ∷ s)
-    go ih true e =
-        let z = eqb-true (readOf (b ∷ s) .number) 0 e in
-        let l = taken-some (b ∷ s) z in
-        let d = length-drop (readOf (b ∷ s) .taken) (b ∷ s) in
-        lines-more m (b ∷ s) (omega arith) z
-        ∙ ap (λ (x : List ℕ). lineOf (textOf (readOf (b ∷ s) .stamp)) ++ x) (ih (drop (readOf (b ∷ s) .taken) (b ∷ s)) (omega arith) (omega arith))
-        ∙ sym (lines-more n (b ∷ s) (omega arith) z)
-    go ih false e =
-        let z = eqb-false (readOf (b ∷ s) .number) 0 e in
-        lines-stop m (b ∷ s) (omega arith) z ∙ sym (lines-stop n (b ∷ s) (omega arith) z)
+    step : ((t : List ℕ) → length t ≤ m → length t ≤ n → linesOf m t ≡ linesOf n t) → (s : List ℕ) → 0 < length s → length s ≤ suc m → length s ≤ suc n
+        → (t : Bool) → eqb (readOf s .number) 0 ≡ t → linesOf (suc m) s ≡ linesOf (suc n) s
+    step ih s p h k true e =
+        let z = eqb-true (readOf s .number) 0 e in
+        let l = taken-some s z in
+        let d = length-drop (readOf s .taken) s in
+        lines-more m s p z
+        ∙ ap (λ (x : List ℕ). lineOf (textOf (readOf s .stamp)) ++ x) (ih (drop (readOf s .taken) s) (omega arith) (omega arith))
+        ∙ sym (lines-more n s p z)
+    step ih s p h k false e =
+        let z = eqb-false (readOf s .number) 0 e in
+        lines-stop m s p z ∙ sym (lines-stop n s p z)
+
+    go : ((t : List ℕ) → length t ≤ m → length t ≤ n → linesOf m t ≡ linesOf n t) → (s : List ℕ) → length s ≤ suc m → length s ≤ suc n
+        → linesOf (suc m) s ≡ linesOf (suc n) s
+    go ih [] h k = lines-none (suc m) ∙ sym (lines-none (suc n))
+    go ih (b ∷ s) h k = step ih (b ∷ s) (omega arith) h k _ refl
 
 -- ---- the lines of all of an input
 

@@ -1,1 +1,2 @@
 // The lines that the program `stamps` prints for an input.
+mod line;
