@@ -2,5 +2,7 @@
 pub mod Orders
 pub mod Gaps
 pub mod Clocks
+pub mod Instants
 pub mod Words
-pub mod Checked
+pub mod Answers
+pub mod TimeOrder

@@ -5,11 +5,11 @@ use Prim.Native.Nat.{ℕ, _+_, _≤_, _<_}
 use native.Mathlib.Decide.{decLt}
 use native.Mathlib.Omega.{arith}
 use lib.Dec.{eqb}
-use lib.IntN.{ℤ, pos, negsuc}
-use lib.Signed.{ltZ}
+use lib.IntN.{ℤ, pos, negsuc, negℤ}
+use lib.Signed.{ltZ, leZ}
 use mir.Syntax.{w32}
 use mir.Val.{ofZ}
-use borrow.Author.Tests.{lt-ltb, le-ltb, eq-eqb, ne-eqb}
+use borrow.Author.Tests.{lt-ltb, le-ltb, eq-eqb, ne-eqb, eqb-true}
 use Rattle.ion.specs.Order.{orderOf}
 use Rattle.order.specs.Counts.{orderOfPairs}
 
@@ -63,6 +63,32 @@ order-zero m n = go (decLt m n) (decLt n m)
     go (yes h) l = bits (order-less m n h) ∙ sym (ne-eqb m n (λ e. omega arith))
     go (no h) (yes l) = bits (order-more m n l) ∙ sym (ne-eqb m n (λ e. omega arith))
     go (no h) (no l) = let e : m ≡ n = omega arith in bits (order-same m n e) ∙ sym (eq-eqb m n e)
+
+pub order-at-most : (m n : ℕ) → leZ (orderOf m n) (pos 0) ≡ true → m ≤ n
+order-at-most m n e = go (decLt n m)
+  where
+    go : Dec (n < m) → m ≤ n
+    go (yes h) = absurd (false≢true (ap (λ (z : ℤ). leZ z (pos 0)) (sym (order-more m n h)) ∙ e))
+    go (no h) = omega arith
+
+pub at-most-order : (m n : ℕ) → m ≤ n → leZ (orderOf m n) (pos 0) ≡ true
+at-most-order m n h = go (decLt m n)
+  where
+    go : Dec (m < n) → leZ (orderOf m n) (pos 0) ≡ true
+    go (yes l) = ap (λ (z : ℤ). leZ z (pos 0)) (order-less m n l)
+    go (no l) = ap (λ (z : ℤ). leZ z (pos 0)) (order-same m n (omega arith))
+
+pub order-equal : (m n : ℕ) → orderOf m n ≡ pos 0 → m ≡ n
+order-equal m n e = eqb-true m n (sym (order-zero m n) ∙ ap (λ (z : ℤ). eqb (ofZ w32 z) 0) e)
+
+-- the other way round it is turned
+pub order-turned : (m n : ℕ) → orderOf n m ≡ negℤ (orderOf m n)
+order-turned m n = go (decLt m n) (decLt n m)
+  where
+    go : Dec (m < n) → Dec (n < m) → orderOf n m ≡ negℤ (orderOf m n)
+    go (yes h) l = order-more n m h ∙ sym (ap negℤ (order-less m n h))
+    go (no h) (yes l) = order-less n m l ∙ sym (ap negℤ (order-more m n l))
+    go (no h) (no l) = order-same n m (omega arith) ∙ sym (ap negℤ (order-same m n (omega arith)))
 
 -- ---- pairs
 

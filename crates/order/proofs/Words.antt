@@ -10,7 +10,7 @@ use Rattle.ion.specs.Calendar.{IsDate, Earlier, dayNumber}
 use Rattle.ion.specs.Pair.{wordIn}
 use Rattle.ion.specs.Accepted.{dateIn, Accepted}
 use Rattle.ion.specs.Count.{offsetIn, countOf}
-use Rattle.ion.specs.Order.{orderOf}
+use Rattle.ion.specs.Order.{orderOf, ionOrder}
 use Rattle.ion.specs.Word.{InRange, wordOf, fieldsOf}
 use Rattle.ion.specs.declared.Date.{Date}
 use Rattle.ion.specs.declared.Fields.{Fields}
@@ -19,7 +19,7 @@ use Rattle.calendar.proofs.Dates.{month-of, day-of, day-number-mono, date-order
 use Rattle.timestamp.proofs.Valid.{valid-in-range, accepted-word}
 use Rattle.order.specs.Counts.{orderOfPairs}
 use Rattle.order.specs.Local.{IsLocal, utcSeconds}
-use Rattle.order.proofs.Orders.{order-less, order-more, order-same, order-shift}
+use Rattle.order.proofs.Orders.{order-less, order-more, order-same, order-alike, order-shift, pairs-alike}
 use Rattle.order.proofs.Gaps.{digits-alike}
 use Rattle.order.proofs.Clocks.{valid-local, utc-parts, order-by}
 
@@ -67,6 +67,18 @@ minutesIn f = hoursIn f * 60 + f .minute
 abbrev localSeconds : Fields → ℕ
 localSeconds f = minutesIn f * 60 + f .second
 
+-- its precision and what stands below
+abbrev lowWord : Fields → ℕ
+lowWord f = ((f .precision * 2 ^ 5 + f .digits) * 2 ^ 12 + f .offset .0) * 2 ^ 4
+
+low-word : (f : Fields) → InRange f → wordOf f % 2 ^ 24 ≡ lowWord f
+unfolding wordOf
+low-word f h = omega arith
+
+-- where that is the same the rest decides
+same-low : (v w : ℕ) → v % 2 ^ 24 ≡ w % 2 ^ 24 → orderOf v w ≡ orderOf (v / 2 ^ 24) (w / 2 ^ 24)
+same-low v w e = order-alike v w (v / 2 ^ 24) (w / 2 ^ 24) (λ h. omega arith) (λ h. omega arith) (λ h. omega arith)
+
 module _ (f g : Fields) (p : IsLocal f) (q : IsLocal g) where
   hours-alike : orderOf (hourWord f) (hourWord g) ≡ orderOf (hoursIn f) (hoursIn g)
   hours-alike =
@@ -111,3 +123,22 @@ module _ (s t : Timestamp) (p : Accepted s) (q : Accepted t) (e : fieldsOf (word
   cut-order =
       order-by (fieldsOf (wordIn s)) (fieldsOf (wordIn t)) (s .attoseconds) (t .attoseconds) (p .fields .attoseconds) (q .fields .attoseconds) (wordIn s / 2 ^ 24) (wordIn t / 2 ^ 24)
       cut-alike
+
+  -- with the same precision and digits too, whole words do
+  word-alike :
+      fieldsOf (wordIn s) .precision ≡ fieldsOf (wordIn t) .precision →
+      fieldsOf (wordIn s) .digits ≡ fieldsOf (wordIn t) .digits →
+      orderOf (wordIn s) (wordIn t) ≡ orderOf (wordIn s / 2 ^ 24) (wordIn t / 2 ^ 24)
+  word-alike h k =
+      let f = fieldsOf (wordIn s) in
+      let g = fieldsOf (wordIn t) in
+      let l : wordIn s % 2 ^ 24 ≡ lowWord f = ap (λ (w : ℕ). w % 2 ^ 24) (sym (accepted-word p)) ∙ low-word f (valid-in-range (p .fields)) in
+      let r : wordIn t % 2 ^ 24 ≡ lowWord g = ap (λ (w : ℕ). w % 2 ^ 24) (sym (accepted-word q)) ∙ low-word g (valid-in-range (q .fields)) in
+      let z : wordIn s % 2 ^ 24 ≡ wordIn t % 2 ^ 24 = omega arith in
+      same-low (wordIn s) (wordIn t) z
+
+  pub word-order :
+      fieldsOf (wordIn s) .precision ≡ fieldsOf (wordIn t) .precision →
+      fieldsOf (wordIn s) .digits ≡ fieldsOf (wordIn t) .digits →
+      ionOrder s t ≡ orderOf (countOf s) (countOf t)
+  word-order h k = pairs-alike (wordIn s) (wordIn t) (wordIn s / 2 ^ 24) (wordIn t / 2 ^ 24) (s .attoseconds) (t .attoseconds) (word-alike h k) ∙ cut-order

@@ -8,7 +8,7 @@ ghost use mathlib.Core.Path.{_≡_};
 ghost use Rattle.ion.specs.Accepted.{Accepted};
 ghost use Rattle.ion.specs.Count.{countOf};
 ghost use Rattle.ion.specs.Order.{orderOf};
-ghost use Rattle.order.specs.Counts.{distanceOfCounts};
+ghost use Rattle.order.specs.Answers.{distanceOfCounts};
 
 // -1, 0 or 1. With the same offset no day is counted: the words above their precision lie as the instants do.
 pub(crate) fn order_of(s: Timestamp, t: Timestamp) -> i32
