@@ -16,8 +16,9 @@ use Rattle.ion.specs.declared.offset.Offset.the-variants.{Unknown, Known}
 use Rattle.calendar.proofs.Dates.{after-year-zero, day-number-below}
 use Rattle.timestamp.proofs.Valid.{valid-time, valid-offset}
 use Rattle.order.specs.Local.{IsLocal, secondsAt, utcSeconds, aheadOf}
-use Rattle.order.specs.Counts.{orderOfPairs, distanceBy, distanceOfCounts}
-use Rattle.order.proofs.Orders.{Alike, shift-alike, order-alike, pairs-alike}
+use Rattle.order.specs.Counts.{orderOfPairs}
+use Rattle.order.specs.Answers.{distant, distanceOfCounts}
+use Rattle.order.proofs.Orders.{order-shift, pairs-alike}
 use Rattle.order.proofs.Gaps.{gap-shift, shift-counts, pairs-count}
 
 -- ---- valid fields
@@ -62,6 +63,10 @@ module _ (f : Fields) (p : IsLocal f) where
       let m = negℤ o in
       omega (arith, neg-parts o, plus-parts (minuteNumber (timeIn f)) m (minutes-room m (omega (arith, p .offset, natAbs-parts o, natAbs-parts m, neg-parts o))))
 
+-- seconds that lie as those in UTC do, and then the attoseconds, give the order of the counts
+pub order-by : (f g : Fields) (a b : ℕ) → a < 10 ^ 18 → b < 10 ^ 18 → (m n : ℕ) → orderOf m n ≡ orderOf (utcSeconds f) (utcSeconds g) → orderOfPairs m a n b ≡ orderOf (countIn f a) (countIn g b)
+order-by f g a b h k m n e = pairs-alike m n (utcSeconds f) (utcSeconds g) a b e ∙ pairs-count (10 ^ 18) (utcSeconds f) (utcSeconds g) a b h k
+
 module _ (f g : Fields) (p : IsLocal f) (q : IsLocal g) where
   pub ahead-small : natAbs (aheadOf f g) < 2880
   ahead-small =
@@ -76,15 +81,11 @@ module _ (f g : Fields) (p : IsLocal f) (q : IsLocal g) where
       omega (arith, utc-parts f p, utc-parts g q, plus-parts (minuteNumber (timeIn g)) z (minutes-room g q z ahead-small), sub-parts (offsetIn f) (offsetIn g))
 
   module _ (a b : ℕ) (h : a < 10 ^ 18) (k : b < 10 ^ 18) where
-    -- seconds that lie as those in UTC do, and then the attoseconds, give the order of the counts
-    pub order-by : (m n : ℕ) → Alike m n (utcSeconds f) (utcSeconds g) → orderOfPairs m a n b ≡ orderOf (countIn f a) (countIn g b)
-    order-by m n l = pairs-alike l a b ∙ pairs-count (10 ^ 18) (utcSeconds f) (utcSeconds g) a b h k
-
     pub order-is : orderOfPairs (secondsAt f (pos 0)) a (secondsAt g (aheadOf f g)) b ≡ orderOf (countIn f a) (countIn g b)
-    order-is = order-by _ _ (shift-alike _ _ _ _ same-clock)
+    order-is = let m = secondsAt f (pos 0) in let n = secondsAt g (aheadOf f g) in order-by f g a b h k m n (order-shift m n (utcSeconds f) (utcSeconds g) same-clock)
 
     counts-shift : (secondsAt f (pos 0) * 10 ^ 18 + a) + countIn g b ≡ (secondsAt g (aheadOf f g) * 10 ^ 18 + b) + countIn f a
     counts-shift = shift-counts (10 ^ 18) (secondsAt f (pos 0)) (secondsAt g (aheadOf f g)) (utcSeconds f) (utcSeconds g) a b same-clock
 
     pub distance-is : distanceOfCounts (secondsAt f (pos 0) * 10 ^ 18 + a) (secondsAt g (aheadOf f g) * 10 ^ 18 + b) ≡ distanceOfCounts (countIn f a) (countIn g b)
-    distance-is = ap₂ distanceBy (order-alike (shift-alike _ _ _ _ counts-shift)) (gap-shift _ _ _ _ counts-shift)
+    distance-is = ap₂ distant (order-shift _ _ _ _ counts-shift) (gap-shift _ _ _ _ counts-shift)

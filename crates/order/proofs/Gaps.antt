@@ -5,10 +5,9 @@ use native.Mathlib.Nat.{mul-le-mul-right, suc-mul, add-mul, mul-sub, mul-comm}
 use native.Mathlib.Decide.{decLt, ℕ-discrete}
 use native.Mathlib.Omega.{arith}
 use lib.Arith.{digits-div, digits-mod}
-use borrow.Author.Tests.{eq-eqb, ne-eqb}
 use Rattle.ion.specs.Order.{orderOf, gapOf}
 use Rattle.order.specs.Counts.{orderOfPairs}
-use Rattle.order.proofs.Orders.{Alike, order-alike}
+use Rattle.order.proofs.Orders.{order-alike, pairs-first, pairs-second, pairs-alike}
 
 pub gap-shift : (m n s t : ℕ) → m + t ≡ n + s → gapOf m n ≡ gapOf s t
 gap-shift m n s t e = omega arith
@@ -53,14 +52,13 @@ module _ (K : ℕ) where
       pub pairs-count : orderOfPairs s a t b ≡ orderOf (s * K + a) (t * K + b)
       pairs-count = go (ℕ-discrete s t)
         where
-          within : s ≡ t → Alike a b (s * K + a) (t * K + b)
-          within e =
-              let k : s * K ≡ t * K = ap (λ (x : ℕ). x * K) e in
-              record { less = λ h. omega arith; same = λ h. omega arith; more = λ h. omega arith }
-
           go : Dec (s ≡ t) → orderOfPairs s a t b ≡ orderOf (s * K + a) (t * K + b)
-          go (yes e) = simp (eq-eqb s t e) (order-alike (within e))
-          go (no h) = simp (ne-eqb s t h) (order-alike (record { less = earlier s t a b ha; same = λ e. absurd (h e); more = earlier t s b a hb }))
+          go (yes e) =
+              let k : s * K ≡ t * K = ap (λ (x : ℕ). x * K) e in
+              pairs-second s a t b e ∙ order-alike a b (s * K + a) (t * K + b) (λ h. omega arith) (λ h. omega arith) (λ h. omega arith)
+          go (no h) =
+              pairs-first s a t b h
+              ∙ order-alike s t (s * K + a) (t * K + b) (earlier s t a b ha) (λ e. absurd (h e)) (earlier t s b a hb)
 
       -- the first is not earlier in seconds or attoseconds
       pub gap-plain : t ≤ s → b ≤ a → gapOf (s * K + a) (t * K + b) ≡ (s - t) * K + (a - b)
@@ -77,3 +75,7 @@ module _ (K : ℕ) where
           let f : (s - suc t) * K ≡ s * K - suc t * K = sub-mul s (suc t) K in
           let g : s - t - 1 ≡ s - suc t = omega arith in
           rw g (omega arith)
+
+-- numbers of two digits lie as their first digits do, whatever the bases
+pub digits-alike : (B C m n s t a b : ℕ) → a < B → b < B → a < C → b < C → orderOf m n ≡ orderOf s t → orderOf (m * B + a) (n * B + b) ≡ orderOf (s * C + a) (t * C + b)
+digits-alike B C m n s t a b ha hb ka kb e = sym (pairs-count B m n a b ha hb) ∙ pairs-alike m n s t a b e ∙ pairs-count C s t a b ka kb

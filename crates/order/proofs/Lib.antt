@@ -1,4 +1,8 @@
+-- The laws of order and distance, for its own proofs and for the crates above. Assumes nothing.
 pub mod Orders
 pub mod Gaps
 pub mod Clocks
-pub mod Checked
+pub mod Instants
+pub mod Words
+pub mod Answers
+pub mod TimeOrder

@@ -4,7 +4,7 @@ use lib.IntN.{ℤ, pos, negℤ, natAbs, _-ℤ_}
 use Rattle.integers.specs.Floor.{_plus_}
 use Rattle.ion.specs.Shift.{IsDateTime, minuteNumber}
 use Rattle.ion.specs.Accepted.{timeIn}
-use Rattle.ion.specs.Count.{offsetIn}
+use Rattle.ion.specs.Count.{attosecondsIn, offsetIn}
 use Rattle.ion.specs.declared.Fields.{Fields}
 use Rattle.order.specs.declared.seconds.Seconds.{Seconds}
 
@@ -31,3 +31,7 @@ aheadOf f g = offsetIn f -ℤ offsetIn g
 -- the whole seconds of the two by the local clock of the first
 abbrev pub bySameClock : Fields → Fields → Seconds
 bySameClock f g = record { first = secondsAt f (pos 0); second = secondsAt g (aheadOf f g) }
+
+-- attoseconds from 0000-01-01T00:00 by the local clock
+abbrev pub localCount : Fields → ℕ → ℕ
+localCount f a = attosecondsIn (minuteNumber (timeIn f)) (f .second) a

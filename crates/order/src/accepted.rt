@@ -8,13 +8,20 @@ ghost use mathlib.Core.Path.{_≡_};
 ghost use Rattle.ion.specs.Accepted.{Accepted};
 ghost use Rattle.ion.specs.Count.{countOf};
 ghost use Rattle.ion.specs.Order.{orderOf};
-ghost use Rattle.order.specs.Counts.{distanceOfCounts};
+ghost use Rattle.order.specs.Answers.{distanceOfCounts};
 
-// -1, 0 or 1.
+// -1, 0 or 1. With the same offset no day is counted: the words above their precision lie as the instants do.
 pub(crate) fn order_of(s: Timestamp, t: Timestamp) -> i32
     requires { ⌜ Accepted s × Accepted t ⌝ }
     ensures { λ r. ⌜ r ≡ orderOf (countOf s) (countOf t) ⌝ }
 {
+    let v = s.packed_fields;
+    let w = t.packed_fields;
+    let o = packed::raw_offset(v);
+    let p = packed::raw_offset(w);
+    if o.bits() == p.bits() {
+        return order_of_pairs(v >> 24, s.attoseconds, w >> 24, t.attoseconds);
+    }
     let seconds = by_same_clock(s, t);
     order_of_pairs(seconds.first, s.attoseconds, seconds.second, t.attoseconds)
 }

@@ -1,21 +1,20 @@
 -- `order::cmp` meets its contract. Assumes nothing.
-use mathlib.Core.Path.{_≡_, sym, _∙_}
+use mathlib.Core.Path.{_≡_, sym, ap, _∙_}
+use Prim.Native.Nat.{ℕ}
 use lib.IntN.{pos}
 use mir.Facts.{toZ-ofZ}
 use borrow.Author.Needs.{needs, sfits-of}
-use Rattle.ion.specs.Count.{countOf}
-use Rattle.ion.specs.Order.{numberOfTwo, orderOf, cmpOf}
-use Rattle.timestamp.proofs.Told.{if-zero, if-refused}
-use Rattle.order.proofs.Checked.{both-accepted}
+use Rattle.ion.specs.Order.{numberOfTwo}
+use Rattle.ion.specs.declared.Ordered.{Ordered}
+use Rattle.order.specs.Answers.{ordered}
+use Rattle.order.proofs.Answers.{both-accepted, cmp-zero, cmp-refused}
 use Rattle.order.proofs.cmp.Statement.{statement}
 use Rattle.order.proofs.cmp.Tie as tie
 
 returns : tie.Need-returns
-unfolding cmpOf
 returns c =
-    let x = c .before .before .args in
     let e = c .before .number-of-two .ensures in
-    λ i. record { number = e i; order = sym (if-refused _ (orderOf (countOf (x .s)) (countOf (x .t))) (pos 0) (λ z. c .if1 .taken (e ∙ z))) i }
+    ap {B = Ordered} (λ (n : ℕ). record { number = n; order = pos 0 }) e ∙ sym (cmp-refused _ _ (λ z. c .if1 .taken (e ∙ z)))
 
 -- both checks have answered 0
 zero : (c : tie.Else1) → let x = c .before .before .args in numberOfTwo (x .s) (x .t) ≡ 0
@@ -25,12 +24,7 @@ order-of-requires : tie.Need-order-of-requires
 order-of-requires c κs = both-accepted _ _ (zero c)
 
 returns-2 : tie.Need-returns-2
-unfolding cmpOf
-returns-2 c =
-    let x = c .before .before .before .args in
-    let e = zero (c .before) in
-    let o = toZ-ofZ (sfits-of (c .order-of .ok)) ∙ c .order-of .ensures in
-    λ i. record { number = sym e i; order = (o ∙ sym (if-zero _ (orderOf (countOf (x .s)) (countOf (x .t))) (pos 0) e)) i }
+returns-2 c = ap ordered (toZ-ofZ (sfits-of (c .order-of .ok)) ∙ c .order-of .ensures) ∙ sym (cmp-zero _ _ (zero (c .before)))
 
 pub cmp-spec : {M : Type 1} → statement M
 cmp-spec = tie.close (tie.spec (λ c κs. search needs) returns order-of-requires returns-2)

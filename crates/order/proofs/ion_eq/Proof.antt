@@ -1,27 +1,25 @@
 -- `order::ion_eq` meets its contract. Assumes nothing.
-use mathlib.Core.Path.{_≡_, sym, _∙_}
+use mathlib.Core.Path.{_≡_, sym, ap, _∙_}
 use mathlib.Core.Bool.{false}
+use Prim.Native.Nat.{ℕ}
 use borrow.Author.Needs.{needs}
-use Rattle.ion.specs.Pair.{samePair}
-use Rattle.ion.specs.Order.{numberOfTwo, ionEqOf}
-use Rattle.timestamp.proofs.Told.{if-zero, if-refused}
+use Rattle.ion.specs.Order.{numberOfTwo}
+use Rattle.ion.specs.declared.Compared.{Compared}
+use Rattle.order.proofs.Answers.{ion-eq-zero, ion-eq-refused}
 use Rattle.order.proofs.ion_eq.Statement.{statement}
 use Rattle.order.proofs.ion_eq.Tie as tie
 
 returns : tie.Need-returns
-unfolding ionEqOf
 returns c =
-    let x = c .before .before .args in
     let e = c .before .number-of-two .ensures in
-    λ i. record { number = e i; equal = sym (if-refused _ (samePair (x .s) (x .t)) false (λ z. c .if1 .taken (e ∙ z))) i }
+    ap {B = Compared} (λ (n : ℕ). record { number = n; equal = false }) e ∙ sym (ion-eq-refused _ _ (λ z. c .if1 .taken (e ∙ z)))
+
+-- both checks have answered 0
+zero : (c : tie.Else1) → let x = c .before .before .args in numberOfTwo (x .s) (x .t) ≡ 0
+zero c = sym (c .before .number-of-two .ensures) ∙ c .if1 .left
 
 returns-2 : tie.Need-returns-2
-unfolding ionEqOf
-returns-2 c =
-    let l = c .before .before .before .before in
-    let x = l .before .before .args in
-    let e : numberOfTwo (x .s) (x .t) ≡ 0 = sym (l .before .number-of-two .ensures) ∙ l .if1 .left in
-    λ i. record { number = sym e i; equal = sym (if-zero _ (samePair (x .s) (x .t)) false e) i }
+returns-2 c = sym (ion-eq-zero _ _ (zero (c .before .before .before .before)))
 
 pub ion-eq-spec : {M : Type 1} → statement M
 ion-eq-spec = tie.close (tie.spec (λ c κs. search needs) returns returns-2)

@@ -4,7 +4,7 @@ use Prim.Native.Nat.{_+_, _*_, _^_}
 use borrow.Author.Needs.{needs}
 use Rattle.ion.specs.Count.{countOf}
 use Rattle.order.specs.declared.seconds.Seconds.{Seconds}
-use Rattle.order.specs.Counts.{distanceOfCounts}
+use Rattle.order.specs.Answers.{distanceOfCounts}
 use Rattle.order.proofs.Clocks.{valid-local, distance-is}
 use Rattle.order.proofs.accepted.distance_of.Statement.{statement}
 use Rattle.order.proofs.accepted.distance_of.Tie as tie

@@ -11,7 +11,7 @@ use mir.Val.{toZ, ofZ}
 use mir.Facts.{toZ-ofZ}
 use borrow.Author.Needs.{needs, sfits-of}
 use Rattle.ion.specs.Order.{orderOf, gapOf}
-use Rattle.order.specs.Counts.{distanceBy}
+use Rattle.order.specs.Answers.{distant}
 use Rattle.order.proofs.Orders.{order-negative, order-not-negative}
 use Rattle.order.proofs.Gaps.{pairs-count, gap-sym}
 use Rattle.order.proofs.counts.distance_of_counts.Statement.{statement}
@@ -47,7 +47,7 @@ distance-by-requires c κs = let p = c .before .before .pre in (p .1, p .0, le-o
 returns : tie.Need-returns
 returns c =
     let b = c .before .before in
-    c .distance-by .ensures ∙ ap₂ distanceBy (sign b) (gap-sym (second b) (first b))
+    c .distance-by .ensures ∙ ap₂ distant (sign b) (gap-sym (second b) (first b))
 
 distance-by-requires-2 : tie.Need-distance-by-requires-2
 distance-by-requires-2 c κs = let p = c .before .before .pre in (p .0, p .1, not-earlier c)
@@ -55,7 +55,7 @@ distance-by-requires-2 c κs = let p = c .before .before .pre in (p .0, p .1, no
 returns-2 : tie.Need-returns-2
 returns-2 c =
     let b = c .before .before in
-    c .distance-by2 .ensures ∙ ap (λ (z : ℤ). distanceBy z (gapOf (first b) (second b))) (sign b)
+    c .distance-by2 .ensures ∙ ap (λ (z : ℤ). distant z (gapOf (first b) (second b))) (sign b)
 
 pub distance-of-counts-spec : {M : Type 1} → statement M
 distance-of-counts-spec =

@@ -1,0 +1,100 @@
+-- What is answered about two timestamps, by the number of their checks. Assumes nothing.
+use mathlib.Core.Path.{_≡_, ap, _∙_}
+use mathlib.Core.Bool.{false}
+use Prim.Native.Nat.{ℕ, _/_, _%_, _^_}
+use native.Mathlib.Decide.{ℕ-discrete}
+use lib.Dec.{eqb}
+use lib.IntN.{pos}
+use borrow.Author.Tests.{eq-eqb, ne-eqb}
+use Rattle.ion.specs.Pair.{samePair}
+use Rattle.ion.specs.Check.{checkOf}
+use Rattle.ion.specs.Accepted.{Accepted}
+use Rattle.ion.specs.Count.{countOf}
+use Rattle.ion.specs.Order.{numberOfTwo, orderOf, ionOrder, gapOf, cmpOf, eqOf, ionEqOf, ionCmpOf, distanceOf}
+use Rattle.ion.specs.declared.Timestamp.{Timestamp}
+use Rattle.ion.specs.declared.Built.{Built}
+use Rattle.ion.specs.declared.Ordered.{Ordered}
+use Rattle.ion.specs.declared.Compared.{Compared}
+use Rattle.ion.specs.declared.Distance.{Distance}
+use Rattle.timestamp.proofs.Accepts.{check-gives, check-accepts}
+use Rattle.timestamp.proofs.Told.{if-zero, if-refused}
+use Rattle.order.specs.Answers.{ordered, compared, distanceOfCounts}
+
+module _ (s t : Timestamp) where
+  -- ---- both checks answer 0 where both timestamps are accepted, and nowhere else
+
+  pub both-zero : Accepted s → Accepted t → numberOfTwo s t ≡ 0
+  both-zero p q =
+      let e : checkOf s .number ≡ 0 = ap (λ (b : Built). b .number) (check-accepts s p) in
+      simp (eq-eqb (checkOf s .number) 0 e) (ap (λ (b : Built). b .number) (check-accepts t q))
+
+  pub both-accepted : numberOfTwo s t ≡ 0 → Accepted s × Accepted t
+  both-accepted e = go (ℕ-discrete (checkOf s .number) 0)
+    where
+      go : Dec (checkOf s .number ≡ 0) → Accepted s × Accepted t
+      go (yes h) = (check-gives s h, check-gives t (simp (eq-eqb (checkOf s .number) 0 h) at e))
+      go (no h) = absurd (h (simp (ne-eqb (checkOf s .number) 0 h) at e))
+
+  -- ---- the answers
+
+  module _ (e : numberOfTwo s t ≡ 0) where
+    pub cmp-zero : cmpOf s t ≡ ordered (orderOf (countOf s) (countOf t))
+    unfolding cmpOf
+    cmp-zero = λ i. record { number = e i; order = if-zero _ (orderOf (countOf s) (countOf t)) (pos 0) e i }
+
+    pub ion-cmp-zero : ionCmpOf s t ≡ ordered (ionOrder s t)
+    unfolding ionCmpOf
+    ion-cmp-zero = λ i. record { number = e i; order = if-zero _ (ionOrder s t) (pos 0) e i }
+
+    pub eq-zero : eqOf s t ≡ compared (eqb (countOf s) (countOf t))
+    unfolding eqOf
+    eq-zero = λ i. record { number = e i; equal = if-zero _ (eqb (countOf s) (countOf t)) false e i }
+
+    pub ion-eq-zero : ionEqOf s t ≡ compared (samePair s t)
+    unfolding ionEqOf
+    ion-eq-zero = λ i. record { number = e i; equal = if-zero _ (samePair s t) false e i }
+
+    pub distance-zero : distanceOf s t ≡ distanceOfCounts (countOf s) (countOf t)
+    unfolding distanceOf
+    distance-zero =
+        let gap = gapOf (countOf s) (countOf t) in
+        λ i.
+        record {
+          number = e i;
+          sign = if-zero _ (orderOf (countOf s) (countOf t)) (pos 0) e i;
+          seconds = if-zero _ (gap / 10 ^ 18) 0 e i;
+          attoseconds = if-zero _ (gap % 10 ^ 18) 0 e i;
+        }
+
+  -- a number alone
+  module _ (h : numberOfTwo s t ≡ 0 → ⊥) where
+    abbrev n : ℕ
+    n = numberOfTwo s t
+
+    pub cmp-refused : cmpOf s t ≡ record { number = n; order = pos 0 }
+    unfolding cmpOf
+    cmp-refused = λ i. record { number = n; order = if-refused _ (orderOf (countOf s) (countOf t)) (pos 0) h i }
+
+    pub ion-cmp-refused : ionCmpOf s t ≡ record { number = n; order = pos 0 }
+    unfolding ionCmpOf
+    ion-cmp-refused = λ i. record { number = n; order = if-refused _ (ionOrder s t) (pos 0) h i }
+
+    pub eq-refused : eqOf s t ≡ record { number = n; equal = false }
+    unfolding eqOf
+    eq-refused = λ i. record { number = n; equal = if-refused _ (eqb (countOf s) (countOf t)) false h i }
+
+    pub ion-eq-refused : ionEqOf s t ≡ record { number = n; equal = false }
+    unfolding ionEqOf
+    ion-eq-refused = λ i. record { number = n; equal = if-refused _ (samePair s t) false h i }
+
+    pub distance-refused : distanceOf s t ≡ record { number = n; sign = pos 0; seconds = 0; attoseconds = 0 }
+    unfolding distanceOf
+    distance-refused =
+        let gap = gapOf (countOf s) (countOf t) in
+        λ i.
+        record {
+          number = n;
+          sign = if-refused _ (orderOf (countOf s) (countOf t)) (pos 0) h i;
+          seconds = if-refused _ (gap / 10 ^ 18) 0 h i;
+          attoseconds = if-refused _ (gap % 10 ^ 18) 0 h i;
+        }
