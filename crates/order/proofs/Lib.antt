@@ -6,3 +6,4 @@ pub mod Instants
 pub mod Words
 pub mod Answers
 pub mod TimeOrder
+pub mod Distances

@@ -7,8 +7,10 @@ use Prim.Native.Nat.{ℕ, _*_, _^_, _≤_}
 use native.Mathlib.Nat.{le-trans}
 use native.Mathlib.Decide.{decLe}
 use native.Mathlib.Omega.{arith}
+use lib.Dec.{eqb}
 use lib.IntN.{ℤ, pos, negsuc, negℤ}
 use lib.Signed.{leZ}
+use borrow.Author.Tests.{eq-eqb, eqb-true}
 use Rattle.ion.specs.Calendar.{isLeap, monthLengthOf, sumBelow}
 use Rattle.ion.specs.Offset.{rawIs}
 use Rattle.ion.specs.Word.{wordOf, fieldsOf}
@@ -17,12 +19,13 @@ use Rattle.ion.specs.Build.{numberOf, pairOf}
 use Rattle.ion.specs.Check.{checkOf}
 use Rattle.ion.specs.Accepted.{Accepted}
 use Rattle.ion.specs.Count.{countOf}
-use Rattle.ion.specs.Order.{orderOf, cmpOf, ionCmpOf}
+use Rattle.ion.specs.Order.{orderOf, cmpOf, eqOf, ionCmpOf}
 use Rattle.ion.specs.declared.Timestamp.{Timestamp}
 use Rattle.ion.specs.declared.Ordered.{Ordered}
+use Rattle.ion.specs.declared.Compared.{Compared}
 use Rattle.order.specs.Answers.{ordered}
-use Rattle.order.proofs.Orders.{order-at-most, at-most-order, order-equal, order-turned}
-use Rattle.order.proofs.Answers.{both-zero, cmp-zero, ion-cmp-zero}
+use Rattle.order.proofs.Orders.{order-same, order-at-most, at-most-order, order-equal, order-turned}
+use Rattle.order.proofs.Answers.{both-zero, cmp-zero, eq-zero, ion-cmp-zero}
 use Rattle.order.proofs.Words.{word-order}
 
 -- `cmp` gives -1 or 0
@@ -45,6 +48,16 @@ module _ (s t : Timestamp) (p : Accepted s) (q : Accepted t) where
 
   pub equal-counts : cmpOf s t .order ≡ pos 0 → countOf s ≡ countOf t
   equal-counts h = order-equal (countOf s) (countOf t) (sym (sign-is s t p q) ∙ h)
+
+  -- `==` holds where `cmp` gives 0
+  equal-is : eqOf s t .equal ≡ eqb (countOf s) (countOf t)
+  equal-is = ap (λ (r : Compared). r .equal) (eq-zero s t (both-zero s t p q))
+
+  pub zero-equal : cmpOf s t .order ≡ pos 0 → eqOf s t .equal ≡ true
+  zero-equal h = equal-is ∙ eq-eqb (countOf s) (countOf t) (equal-counts h)
+
+  pub equal-zero : eqOf s t .equal ≡ true → cmpOf s t .order ≡ pos 0
+  equal-zero h = sign-is s t p q ∙ order-same (countOf s) (countOf t) (eqb-true (countOf s) (countOf t) (sym equal-is ∙ h))
 
 -- any three accepted timestamps, whatever their precisions and offsets
 pub record IsOrder (s t u : Timestamp) : Type 0 where

@@ -88,14 +88,11 @@ pub fn ion_cmp(s: Timestamp, t: Timestamp) -> Ordered
             order: 0,
         };
     }
+    let v = s.packed_fields;
+    let w = t.packed_fields;
     Ordered {
         number: 0,
-        order: order_of_pairs(
-            s.packed_fields,
-            s.attoseconds,
-            t.packed_fields,
-            t.attoseconds,
-        ),
+        order: order_of_pairs(v, s.attoseconds, w, t.attoseconds),
     }
 }
 
