@@ -116,7 +116,7 @@ take-small k (suc n) [] h b i = h
 take-small k (suc n) (v ∷ l) h b zero = b zero
 take-small k (suc n) (v ∷ l) h b (suc i) = take-small k n l h (λ j. b (suc j)) i
 
-no-fraction : (d c : ℕ) → d ≡ 0 → fractionBytes d c ≡ []
+pub no-fraction : (d c : ℕ) → d ≡ 0 → fractionBytes d c ≡ []
 unfolding fractionBytes
 no-fraction d c e = rw e
 

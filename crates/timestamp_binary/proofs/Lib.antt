@@ -1,3 +1,10 @@
+pub mod PartsTested
+pub mod PartsReadings
+pub mod ReadSteps
+pub mod BodyParts
+pub mod FieldSteps
+pub mod FractionRuns
+pub mod FieldRuns
 pub mod DecodeBack
 pub mod DecodeIs
 pub mod UtcTime

@@ -1,0 +1,97 @@
+-- What the reader answers for a body's parts is what it answers for its bytes. Assumes nothing.
+use mathlib.Core.Path.{_≡_, refl, sym, ap, ap₂, subst, _∙_}
+use mathlib.Core.Bool.{Bool, true, false, cond, _&&_, and-eq-true-iff}
+use mathlib.Core.List.{List}
+use mathlib.Core.Logic.{inl, inr}
+use Prim.Native.Nat.{ℕ, _≤_, _<_}
+use native.Mathlib.Omega.{arith}
+use borrow.Author.Tests.{eqb-true}
+use lib.Dec.{eqb}
+use Rattle.ion.specs.Refusal.{bodyRefused}
+use Rattle.ion.specs.Pair.{wordIn, pairIs}
+use Rattle.ion.specs.Word.{wordOf, fieldsOf}
+use Rattle.ion.specs.Check.{checkOf}
+use Rattle.ion.specs.Accepted.{Valid, Accepted}
+use Rattle.ion.specs.Value.{bodyFrom, bodyOf}
+use Rattle.ion.specs.Decode.{Decoded, found, nothing, decodeBody, pairFrom, localBy}
+use Rattle.ion.specs.ReadValue.{refusedReading, acceptedReading, same, isBodyOf, takenAs, readBody}
+use Rattle.ion.specs.declared.Fields.{Fields}
+use Rattle.ion.specs.declared.Body.{Body}
+use Rattle.ion.specs.declared.Read.{Read}
+use Rattle.packed.proofs.Words.{unpack-pack}
+use Rattle.timestamp.proofs.Valid.{valid-in-range, valid-accepted}
+use Rattle.timestamp.proofs.Accepts.{check-gives}
+use Rattle.timestamp.proofs.UtcForm.{utc-is}
+use Rattle.timestamp_binary.specs.Acceptable.{Acceptable}
+use Rattle.timestamp_binary.specs.BodyFor.{bodyFor}
+use Rattle.timestamp_binary.specs.Encodable.{Encodable}
+use Rattle.timestamp_binary.specs.PartsRead.{UtcInBounds, PartsRead}
+use Rattle.timestamp_binary.proofs.DecodeIs.{Bytes, body-is}
+use Rattle.timestamp_binary.proofs.UtcBody.{acceptable}
+use Rattle.timestamp_binary.proofs.LocalFields.{attosecondsFrom, local-valid, body-again}
+use Rattle.timestamp_binary.proofs.Values.{same-is, decode-value, body-read}
+
+-- ---- acceptable parts
+
+-- their UTC year is 10000 at most
+pub acceptable-bounds : (x : Body) → Encodable x → Acceptable x → UtcInBounds x
+acceptable-bounds x p q =
+    record {
+      time = q .time;
+      year = subst (λ (u : Fields). u .year ≤ 10000) (ap (λ (y : Body). y .utc) (body-again x p q)) (utc-is (local-valid x p q) .year);
+      second = q .second;
+      digits = q .digits;
+      coefficient = q .coefficient;
+      known-late = q .known-late;
+    }
+
+pub bounds-acceptable : (x : Body) → UtcInBounds x → 1 ≤ localBy (x .offset) (x .utc) .year → localBy (x .offset) (x .utc) .year ≤ 9999 → Acceptable x
+bounds-acceptable x b l h =
+    record { time = b .time; second = b .second; digits = b .digits; coefficient = b .coefficient; known-late = b .known-late; from-year = l; to-year = h }
+
+-- ---- a body of n bytes in all that is decoded to x
+
+module _ (n : ℕ) (b : List ℕ) (x : Body) (bytes : Bytes b) (decoded : decodeBody b ≡ found x) where
+  module _ (q : Acceptable x) where
+    local : Valid (localBy (x .offset) (x .utc)) (attosecondsFrom x)
+    local = local-valid x (body-is b x bytes decoded .encodable) q
+
+    accepted : Accepted (pairFrom x)
+    unfolding pairFrom
+    accepted = valid-accepted local
+
+    body-same : bodyOf (pairFrom x) ≡ b
+    unfolding pairFrom bodyOf
+    body-same =
+        let w = body-is b x bytes decoded in
+        let f = localBy (x .offset) (x .utc) in
+        ap (λ (g : Fields). let y = bodyFor g (attosecondsFrom x) in bodyFrom (y .offset) (y .utc) (y .coefficient)) (unpack-pack f (valid-in-range local))
+        ∙ ap (λ (y : Body). bodyFrom (y .offset) (y .utc) (y .coefficient)) (body-again x (w .encodable) q)
+        ∙ sym (w .bytes)
+
+    pub body-accepted : readBody n b ≡ acceptedReading (pairFrom x) n
+    body-accepted = ap (readBody n) (sym body-same) ∙ body-read (pairFrom x) accepted n
+
+  pub body-refused : (Acceptable x → ⊥) → readBody n b ≡ refusedReading bodyRefused
+  unfolding readBody isBodyOf
+  body-refused h = ap (takenAs n b) decoded ∙ go (eqb (checkOf (pairFrom x) .number) 0 && same (bodyOf (pairFrom x)) b) refl
+    where
+      go : (t : Bool) → (eqb (checkOf (pairFrom x) .number) 0 && same (bodyOf (pairFrom x)) b) ≡ t
+          → cond t (acceptedReading (pairFrom x) n) (refusedReading bodyRefused) ≡ refusedReading bodyRefused
+      go true e =
+          let s = pairFrom x in
+          let p = and-eq-true-iff (eqb (checkOf s .number) 0) (same (bodyOf s) b) .0 e in
+          let a = check-gives s (eqb-true (checkOf s .number) 0 (p .0)) in
+          let y = bodyFor (fieldsOf (wordIn s)) (s .attoseconds) in
+          let d : found x ≡ found y = sym decoded ∙ ap decodeBody (sym (same-is (bodyOf s) b (p .1))) ∙ decode-value s a in
+          let z : x ≡ y = cc in
+          absurd (h (rw z (acceptable (fieldsOf (wordIn s)) (s .attoseconds) (a .fields))))
+      go false e = refl
+
+  pub parts-read : (r : Read) → PartsRead x n r → r ≡ readBody n b
+  parts-read r (inl (q, e)) = e ∙ sym (body-accepted q)
+  parts-read r (inr (h, e)) = e ∙ sym (body-refused h)
+
+pub nothing-read : (n : ℕ) (b : List ℕ) → decodeBody b ≡ nothing → readBody n b ≡ refusedReading bodyRefused
+unfolding readBody
+nothing-read n b e = ap (takenAs n b) e

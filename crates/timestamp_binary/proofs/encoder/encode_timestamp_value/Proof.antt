@@ -1,0 +1,114 @@
+-- `encoder::encode_timestamp_value` meets its contract. Assumes nothing.
+use borrow.Author.Needs.{needs}
+use borrow.Author.Tests.{eq-eqb, ne-eqb}
+use mathlib.Core.Path.{_≡_, refl, sym, _∙_}
+use mathlib.Core.List.{_∷_}
+use Prim.Native.Nat.{ℕ, _+_, _-_, _≤_}
+use native.Mathlib.Omega.{arith}
+use lib.Dec.{lit≤}
+use lib.ListN.{length, take, length-set}
+use lib.Seq.{length-take-le}
+use Rattle.ion.specs.Output.{putAfter, wroteAfter}
+use Rattle.ion.specs.Check.{checkOf}
+use Rattle.ion.specs.Accepted.{Accepted}
+use Rattle.ion.specs.Value.{bodyOf}
+use Rattle.output.proofs.Runs.{run-front}
+use Rattle.timestamp.proofs.Accepts.{check-gives}
+use Rattle.timestamp_binary.proofs.Values.{body-length}
+use Rattle.timestamp_binary.proofs.BodyParts.{stored-short, stored-long}
+use Rattle.timestamp_binary.proofs.encoder.encode_timestamp_value.Statement.{statement}
+use Rattle.timestamp_binary.proofs.encoder.encode_timestamp_value.Tie as tie
+
+returns : tie.Need-returns
+unfolding wroteAfter putAfter
+returns c = rw (← c .before .number-of .ensures, ne-eqb _ 0 (c .if1 .taken)) (refl, refl)
+
+-- the check's number is 0
+passed : (c : tie.Else1) → checkOf (c .before .before .before .args .s) .number ≡ 0
+passed c = sym (c .before .number-of .ensures) ∙ c .if1 .left
+
+accepted : (c : tie.Else1) → Accepted (c .before .before .before .args .s)
+accepted c = check-gives (c .before .before .before .args .s) (passed c)
+
+put-body-requires : tie.Need-put-body-requires
+put-body-requires c κs =
+    let a = accepted (c .before) in
+    (a, omega (arith, body-length _ a))
+
+-- ---- the array, with two bytes before the body
+
+most : (c : tie.After-put-body) → c .put-body .result ≤ 20
+most c = omega (arith, c .put-body .ensures .next, body-length _ (accepted (c .before .before)))
+
+inside : (c : tie.After-put-body) → c .put-body .result ≤ length (c .put-body .last .0)
+inside c = omega (arith, most c, c .put-body .kept .0)
+
+front : (c : tie.After-put-body) → take (c .put-body .result) (c .put-body .last .0) ≡ 0 ∷ 0 ∷ bodyOf (c .before .before .before .before .before .args .s)
+front c = run-front (c .put-body .ensures) (lit≤ tt)
+
+-- ---- a body of 13 bytes at most
+
+part-put-bytes-end : tie.Need-part-put-bytes-end
+part-put-bytes-end c = simp length-set (inside (c .before .before .before .before))
+
+returns-2 : tie.Need-returns-2
+unfolding wroteAfter putAfter
+returns-2 c =
+    let p = c .before .before in
+    let i = p .before .before .before .before in
+    let k = i .before .before in
+    let e = k .before .before in
+    rw (eq-eqb _ 0 (passed e), ← stored-short (e .before .before .before .args .s) (k .put-body .last .0) (k .put-body .result) (front k) (inside k) (i .if2 .taken))
+    (p .put-bytes .ensures)
+
+-- ---- a longer one
+
+add-bytes-2 : tie.Need-add-bytes-2
+add-bytes-2 c = omega (arith, most (c .before .before))
+
+cast-bytes-2 : tie.Need-cast-bytes-2
+cast-bytes-2 c = omega (arith, most (c .before .before))
+
+array-share-prefix-bytes : tie.Need-array-share-prefix-bytes
+array-share-prefix-bytes c = simp length-set (inside (c .before .before .before))
+
+slice-aggregate-put-bytes : tie.Need-slice-aggregate-put-bytes
+slice-aggregate-put-bytes c = sym (length-take-le _ _ (simp length-set (inside (c .before .before .before .before))))
+
+returns-3 : tie.Need-returns-3
+unfolding wroteAfter putAfter
+returns-3 c =
+    let p = c .before .before in
+    let i = p .before .before .before in
+    let k = i .before .before in
+    let e = k .before .before in
+    rw (eq-eqb _ 0 (passed e), ← stored-long (e .before .before .before .args .s) (k .put-body .last .0) (k .put-body .result) (front k) (inside k) (i .if2 .left) (omega (arith, most k)))
+    (p .put-bytes2 .ensures)
+
+pub encode-timestamp-value-spec : {M : Type 1} → statement M
+encode-timestamp-value-spec =
+    tie.close
+    (tie.spec
+    (λ c κs. search needs)
+    returns
+    (λ c. search needs)
+    put-body-requires
+    (λ c. search needs)
+    (λ c. search needs)
+    (λ c. search needs)
+    (λ c. search needs)
+    (λ c. search needs)
+    (λ c. search needs)
+    part-put-bytes-end
+    (λ c κs. search needs)
+    (λ c. search needs)
+    returns-2
+    (λ c. search needs)
+    add-bytes-2
+    cast-bytes-2
+    (λ c. search needs)
+    array-share-prefix-bytes
+    slice-aggregate-put-bytes
+    (λ c κs. search needs)
+    (λ c. search needs)
+    returns-3)
