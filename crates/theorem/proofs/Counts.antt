@@ -6,52 +6,11 @@ use Prim.Native.Nat.{ℕ, zero, suc, _+_, _-_, _*_, _/_, _%_, _^_, _≤_, _<_}
 use native.Mathlib.Nat.{div-add-mod'}
 use native.Mathlib.Omega.{arith}
 use native.Mathlib.Decide.{decLt}
-use lib.IntN.{ℤ, pos, negsuc, natAbs, negℤ, _-ℤ_, _*ℤ_}
-use Rattle.integers.specs.Floor.{_plus_}
-use Rattle.integers.proofs.Parts.{up, down, sub-parts, mul-parts, neg-parts, plus-parts, parts-eq}
-use Rattle.ion.specs.Pair.{wordIn}
-use Rattle.ion.specs.Offset.{WithinDay, offsetOf, minutesOf}
-use Rattle.ion.specs.Word.{fieldsOf}
-use Rattle.ion.specs.Shift.{minuteNumber}
-use Rattle.ion.specs.Accepted.{Valid, Accepted, timeIn}
-use Rattle.ion.specs.Count.{attosecondsIn, offsetIn, countOf}
+use lib.IntN.{ℤ, pos, negsuc, _-ℤ_, _*ℤ_}
+use Rattle.integers.proofs.Parts.{up, down, sub-parts, mul-parts, parts-eq}
 use Rattle.ion.specs.Order.{orderOf, gapOf}
-use Rattle.ion.specs.declared.Fields.{Fields}
-use Rattle.ion.specs.declared.Timestamp.{Timestamp}
-use Rattle.ion.specs.declared.offset.Offset.{Offset}
-use Rattle.ion.specs.declared.offset.Offset.the-variants.{Unknown, Known}
-use Rattle.timestamp.proofs.Valid.{valid-time, valid-offset}
-use Rattle.order.specs.Local.{IsLocal}
-use Rattle.order.proofs.Gaps.{enough, order-less, order-more, order-same}
-use Rattle.theorem.specs.TwoStamps.{utcCount, SignOf, below, none, above}
-
--- ---- the count of an accepted timestamp is its local count less its offset, nothing cut off
-
-minutes-within : (o : Offset) → WithinDay o → natAbs (minutesOf o) < 1440
-minutes-within Unknown w = omega arith
-minutes-within (Known m) w = w
-
-is-local : {f : Fields} {a : ℕ} → Valid f a → IsLocal f
-is-local {f} v =
-    record {
-      time = valid-time v;
-      from-year = v .from-year;
-      to-year = v .to-year;
-      second = v .second;
-      offset = minutes-within (offsetOf (f .offset)) (valid-offset v);
-    }
-
-pub count-exact : (s : Timestamp) → Accepted s → pos (countOf s) ≡ utcCount s
-unfolding countOf
-count-exact s p =
-    let f = fieldsOf (wordIn s) in
-    let a = s .attoseconds in
-    let m = minuteNumber (timeIn f) in
-    let o = offsetIn f in
-    let k = 60 * 10 ^ 18 in
-    let l = attosecondsIn m (f .second) a in
-    parts-eq (pos (attosecondsIn (m plus negℤ o) (f .second) a)) (pos l -ℤ o *ℤ pos k)
-    (omega (arith, sub-parts (pos l) (o *ℤ pos k), mul-parts o k, neg-parts o, plus-parts m (negℤ o) (enough f (is-local (p .fields)))))
+use Rattle.order.proofs.Orders.{order-less, order-more, order-same}
+use Rattle.theorem.specs.TwoStamps.{SignOf, below, none, above}
 
 -- ---- sign and size
 

@@ -21,7 +21,8 @@ use Rattle.timestamp.proofs.Accepts.{check-gives, check-accepts}
 use Rattle.timestamp_binary.proofs.Values as values
 use Rattle.timestamp_binary.proofs.Readings.{value-apart, value-injective}
 use Rattle.theorem.specs.TwoStamps.{utcCount, signedSize, SignOf, TwoStamps}
-use Rattle.theorem.proofs.Counts.{count-exact, signed-gap, order-sign, size-is}
+use Rattle.order.proofs.Instants.{count-is}
+use Rattle.theorem.proofs.Counts.{signed-gap, order-sign, size-is}
 use Rattle.theorem.proofs.Bytes.{number-zero, writes, reads-back}
 use Rattle.timestamp_text.proofs.Distinct.{text-inj}
 
@@ -31,7 +32,7 @@ module _ (a b : Timestamp) (p : Accepted a) (q : Accepted b) where
 
   -- the signed difference of the counts
   difference : pos (countOf a) -ℤ pos (countOf b) ≡ utcCount a -ℤ utcCount b
-  difference = ap₂ _-ℤ_ (count-exact a p) (count-exact b q)
+  difference = ap₂ _-ℤ_ (count-is a p) (count-is b q)
 
   distance-exact : signedSize (distanceOf a b) ≡ utcCount a -ℤ utcCount b
   unfolding distanceOf
@@ -54,14 +55,14 @@ module _ (a b : Timestamp) (p : Accepted a) (q : Accepted b) where
 
   same-count : utcCount a ≡ utcCount b → countOf a ≡ countOf b
   same-count e =
-      let x : pos (countOf a) ≡ pos (countOf b) = count-exact a p ∙ e ∙ sym (count-exact b q) in
+      let x : pos (countOf a) ≡ pos (countOf b) = count-is a p ∙ e ∙ sym (count-is b q) in
       cc
 
   eq-exact : (eqOf a b .equal ≡ true → utcCount a ≡ utcCount b) × (utcCount a ≡ utcCount b → eqOf a b .equal ≡ true)
   unfolding eqOf
   eq-exact =
       rw both (
-        (λ e. sym (count-exact a p) ∙ ap pos (eqb-true (countOf a) (countOf b) e) ∙ count-exact b q),
+        (λ e. sym (count-is a p) ∙ ap pos (eqb-true (countOf a) (countOf b) e) ∙ count-is b q),
         (λ e. eq-eqb (countOf a) (countOf b) (same-count e)),
       )
 
@@ -90,7 +91,7 @@ module _ (a b : Timestamp) (p : Accepted a) (q : Accepted b) where
   together : TwoStamps a b
   together =
       record {
-        count-exact = (count-exact a p, count-exact b q);
+        count-exact = (count-is a p, count-is b q);
         distance-accepted = accepted-distance;
         distance-exact = distance-exact;
         distance-parts = distance-parts;
