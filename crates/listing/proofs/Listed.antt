@@ -75,6 +75,13 @@ module _ {input d e : List ℕ} {at end : ℕ} (p : Listed input d e at end) (ro
           let v = valueOf (readOf (drop at input) .stamp) in
           omega (arith, q .taken, ap length (q .bytes), length-append v (drop (readOf (drop at input) .taken) (drop at input)))
 
+      -- there is room for its line
+      pub line-room : end + 45 ≤ length e
+      line-room = omega (arith, p .few, p .size, taken-some (drop at input) ok, taken-within, length-drop at input)
+
+      pub taken-fits : at + readOf (drop at input) .taken ≤ length input
+      taken-fits = omega (arith, taken-within, length-drop at input)
+
       pub next : {g : List ℕ} {n : ℕ} → Run e end (lineOf (textOf (readOf (drop at input) .stamp))) g n → n ≤ end + 45
           → Listed input d g (at + readOf (drop at input) .taken) n
       next {g} {n} r h =

@@ -22,7 +22,7 @@ pub(crate) fn put_text(out: &mut [u8], at: usize, s: Timestamp) -> usize
 // Puts `stop`, a space, the number and a line feed from index `at` on; the index after them.
 pub(crate) fn put_stop(out: &mut [u8], at: usize, number: u32) -> usize
     requires { ⌜ (at + 8 ≤ length (now out)) × (number < 100) ⌝ }
-    ensures { λ r. ⌜ Run (now (out .entry)) at (stopLine number) (now (out .exit)) r ⌝ }
+    ensures { λ r. ⌜ (Run (now (out .entry)) at (stopLine number) (now (out .exit)) r) × (r ≤ at + 8) ⌝ }
 {
     output::copy_in(out, at, b"stop ");
     let end = text_formatter::put_padded(out, at + 5, number as u64, 1);

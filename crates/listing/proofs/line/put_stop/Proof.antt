@@ -50,8 +50,8 @@ returns : tie.Need-returns
 returns c =
     let p = c .before .before .before .before .before .before .before in
     let b = p .before .before .before .before .before .before .before .before in
-    line-end (stop-run (b .args .number) (p .before .before .before .before .copy-in .ensures) (p .put-padded .ensures) (omega (arith, number-end p, b .pre .0)))
-    (c .before .before .copy-in2 .ensures) (omega (arith, number-end p, b .pre .0))
+    let r = stop-run (b .args .number) (p .before .before .before .before .copy-in .ensures) (p .put-padded .ensures) (omega (arith, number-end p, b .pre .0)) in
+    (line-end r (c .before .before .copy-in2 .ensures) (omega (arith, number-end p, b .pre .0)), omega (arith, number-end p))
 
 pub put-stop-spec : {M : Type 1} → statement M
 put-stop-spec =
