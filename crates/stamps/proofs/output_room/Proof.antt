@@ -1,0 +1,12 @@
+-- `stamps::output_room` meets its contract. Assumes nothing.
+use mathlib.Core.Path.{sym}
+use Prim.Native.Nat.{ℕ}
+use lib.ListN.{length-replicate}
+use Rattle.stamps.proofs.output_room.Statement.{statement}
+use Rattle.stamps.proofs.output_room.Tie as tie
+
+returns : tie.Need-returns
+returns c = sym (length-replicate {0} {A = ℕ} 983_063 0)
+
+pub output-room-spec : {M : Type 1} → statement M
+output-room-spec = tie.close (tie.spec returns)
