@@ -1,7 +1,7 @@
 -- Accepted timestamps with equal texts are equal. Assumes nothing.
 use mathlib.Core.Path.{_≡_, sym, ap, _∙_}
 use Prim.Native.Nat.{ℕ}
-use Rattle.ion.specs.Word.{wordOf, fieldsOf}
+use Rattle.ion.specs.Word.{wordOf}
 use Rattle.ion.specs.Pair.{wordIn, pairIs}
 use Rattle.ion.specs.Build.{accepted, buildOf}
 use Rattle.ion.specs.Check.{rebuilt}

@@ -77,7 +77,7 @@ either true a b m n h k = h
 either false a b m n h k = k
 
 pub length-text : (f : Fields) (a : ℕ) → Valid f a → length (fieldsText f a) ≡ textLength (f .precision) (f .digits)
-unfolding fieldsText textLength
+unfolding fieldsText
 length-text f a v =
     let r = valid-in-range v in
     let y = length-year f (v .to-year) r in
@@ -101,7 +101,6 @@ most true m n k h l = h
 most false m n k h l = l
 
 pub longest : (f : Fields) (a : ℕ) → Valid f a → length (fieldsText f a) ≤ 44
-unfolding textLength
 longest f a v =
     let p = f .precision in
     let d = f .digits in

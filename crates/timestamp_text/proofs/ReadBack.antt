@@ -2,7 +2,7 @@
 use mathlib.Core.Path.{_≡_, refl, sym, ap, _∙_}
 use mathlib.Core.List.{List, _∷_, _++_}
 use Prim.Native.Char.{code}
-use Prim.Native.Nat.{ℕ, zero, suc, _+_, _*_, _/_, _^_, _≤_, _<_, min}
+use Prim.Native.Nat.{ℕ, zero, suc, _/_, _≤_, _<_, min}
 use native.Mathlib.Omega.{arith}
 use borrow.Author.Tests.{ne-eqb, lt-ltb}
 use lib.Dec.{lit≤}

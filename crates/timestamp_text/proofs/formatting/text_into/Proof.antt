@@ -162,7 +162,7 @@ format-fractional-seconds-requires c κs =
     let n = q .before .before .before .before .before .before in
     let s = n .before .before .before .before .before .before in
     let l = length-fraction (s .args .f .digits) (s .args .attoseconds) (s .pre .1 .digits) (s .pre .1 .attoseconds) in
-    (omega (arith, room-next (second-fraction n) (to-second q)), s .pre .1 .digits, s .pre .1 .attoseconds)
+    (omega (arith, room-next (second-fraction n) (to-second q)), omega (arith, s .pre .1 .digits), omega (arith, s .pre .1 .attoseconds))
 
 to-fraction : (c : tie.After-format-fractional-seconds) → let a = c .before .before .before .before .before .before .before .before .before .before .before .before .before .before .before .before .args in Run (a .b .now) (a .at) (toFraction (a .f) (a .attoseconds)) (c .format-fractional-seconds .last .0) (c .format-fractional-seconds .result)
 to-fraction c =

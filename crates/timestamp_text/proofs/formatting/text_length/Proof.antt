@@ -2,32 +2,10 @@
 use borrow.Author.Needs.{needs}
 use borrow.Author.Tests.{eq-eqb, ne-eqb}
 use native.Mathlib.Omega.{arith}
-use Rattle.timestamp_text.specs.Length.{textLength}
 use Rattle.timestamp_text.proofs.formatting.text_length.Statement.{statement}
 use Rattle.timestamp_text.proofs.formatting.text_length.Tie as tie
 
-returns : tie.Need-returns
-unfolding textLength
-returns c = search (eq-eqb, ne-eqb)
-
-returns-2 : tie.Need-returns-2
-unfolding textLength
-returns-2 c = search (eq-eqb, ne-eqb)
-
-returns-3 : tie.Need-returns-3
-unfolding textLength
-returns-3 c = search (eq-eqb, ne-eqb)
-
-returns-4 : tie.Need-returns-4
-unfolding textLength
-returns-4 c = search (eq-eqb, ne-eqb)
-
-returns-5 : tie.Need-returns-5
-unfolding textLength
-returns-5 c = search (eq-eqb, ne-eqb)
-
 returns-6 : tie.Need-returns-6
-unfolding textLength
 returns-6 c =
     let e4 = c .before in
     let e3 = e4 .before in
@@ -36,4 +14,13 @@ returns-6 c =
     rw (ne-eqb _ _ (e1 .if1 .left), ne-eqb _ _ (e2 .if2 .left), ne-eqb _ _ (e3 .if3 .left), ne-eqb _ _ (e4 .if4 .left), ne-eqb _ _ (c .if5 .left)) (omega arith)
 
 pub text-length-spec : {M : Type 1} → statement M
-text-length-spec = tie.close (tie.spec returns returns-2 returns-3 returns-4 returns-5 (λ c. search needs) returns-6)
+text-length-spec =
+    tie.close
+    (tie.spec
+    (λ c. search eq-eqb)
+    (λ c. search (eq-eqb, ne-eqb))
+    (λ c. search (eq-eqb, ne-eqb))
+    (λ c. search (eq-eqb, ne-eqb))
+    (λ c. search (eq-eqb, ne-eqb))
+    (λ c. search needs)
+    returns-6)

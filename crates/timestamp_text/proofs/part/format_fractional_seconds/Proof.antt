@@ -28,7 +28,7 @@ put-byte-requires : tie.Need-put-byte-requires
 put-byte-requires c κs = omega (arith, some (c .before))
 
 div-put-digits : tie.Need-div-put-digits
-div-put-digits c = rw (c .scale .ensures) (scale-pos (c .before .before .before .before .before .before .before .before .args .digits))
+div-put-digits c = rw (c .scale .ensures) (scale-pos _)
 
 put-digits-requires : tie.Need-put-digits-requires
 put-digits-requires c κs =
