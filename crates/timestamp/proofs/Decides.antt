@@ -26,8 +26,9 @@ then-decides {a} {b} d e = (
   λ q. and-eq-true-iff a b .1 (d .1 (q .0), e (q .0) .1 (q .1)),
 )
 
-pub and-decides : {a b : Bool} {P Q : Type 0} → Decides a P → Decides b Q → Decides (a && b) (P × Q)
-and-decides d e = then-decides d (λ p. e)
+infixl 35 _and_
+pub _and_ : {a b : Bool} {P Q : Type 0} → Decides a P → Decides b Q → Decides (a && b) (P × Q)
+d and e = then-decides d (λ p. e)
 
 -- a field that a precision below k does not have
 pub below-decides : (k p : ℕ) {b : Bool} {P : Type 0} → Decides b P → Decides (leb k p || b) (p < k → P)

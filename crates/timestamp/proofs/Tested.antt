@@ -17,7 +17,7 @@ use Rattle.ion.specs.declared.Fields.{Fields}
 use Rattle.ion.specs.declared.Timestamp.{Timestamp}
 use Rattle.ion.specs.declared.Built.{Built}
 use Rattle.calendar.proofs.Dates.{is-date, date-is}
-use Rattle.timestamp.proofs.Decides.{Decides, le-decides, lt-decides, eq-decides, then-decides, and-decides, below-decides}
+use Rattle.timestamp.proofs.Decides.{Decides, le-decides, lt-decides, eq-decides, then-decides, _and_, below-decides}
 use Rattle.timestamp.proofs.Accepts.{check-gives, check-accepts}
 
 -- ---- the fields
@@ -52,14 +52,22 @@ First f =
 
 bounds-decides : (f : Fields) → Decides (boundsTest f) (Bounds f)
 bounds-decides f =
-    and-decides (and-decides (and-decides (and-decides (and-decides (and-decides (and-decides (le-decides 1 (f .year)) (le-decides (f .year) 9999)) (le-decides (f .hour) 23)) (le-decides (f .minute) 59)) (le-decides (f .second) 59)) (le-decides (f .precision) 4)) (le-decides (f .digits) 18)) (lt-decides (f .offset .0) 2880)
+    le-decides 1 (f .year)
+    and le-decides (f .year) 9999
+    and le-decides (f .hour) 23
+    and le-decides (f .minute) 59
+    and le-decides (f .second) 59
+    and le-decides (f .precision) 4
+    and le-decides (f .digits) 18
+    and lt-decides (f .offset .0) 2880
 
 first-decides : (f : Fields) → Decides (firstTest f) (First f)
 first-decides f =
     let p = f .precision in
-    let hours = and-decides (and-decides (eq-decides (f .hour) 0) (eq-decides (f .minute) 0)) (eq-decides (f .offset .0) 0) in
-    let seconds = and-decides (eq-decides (f .second) 0) (eq-decides (f .digits) 0) in
-    and-decides (and-decides (and-decides (below-decides 1 p (eq-decides (f .month) 1)) (below-decides 2 p (eq-decides (f .day) 1))) (below-decides 3 p hours)) (below-decides 4 p seconds)
+    below-decides 1 p (eq-decides (f .month) 1)
+    and below-decides 2 p (eq-decides (f .day) 1)
+    and below-decides 3 p (eq-decides (f .hour) 0 and eq-decides (f .minute) 0 and eq-decides (f .offset .0) 0)
+    and below-decides 4 p (eq-decides (f .second) 0 and eq-decides (f .digits) 0)
 
 date-decides : (t : Date) → t .year ≤ 9999 → Decides (isDate t) (IsDate t)
 date-decides t y = (is-date t (omega arith), date-is t (omega arith))
@@ -98,8 +106,9 @@ valid-all f a v =
 
 pub valid-decides : (f : Fields) (a : ℕ) → Decides (validTest f a) (Valid f a)
 valid-decides f a =
-    let head = and-decides (and-decides (bounds-decides f) (first-decides f)) (lt-decides a (10 ^ 18)) in
-    let all = and-decides (then-decides head (λ p. date-decides (dateIn f) (p .0 .0 .0 .0 .0 .0 .0 .0 .1))) (eq-decides (a % scale (f .digits)) 0) in
+    let head = bounds-decides f and first-decides f and lt-decides a (10 ^ 18) in
+    let dated = then-decides head (λ p. date-decides (dateIn f) (p .0 .0 .0 .0 .0 .0 .0 .0 .1)) in
+    let all = dated and eq-decides (a % scale (f .digits)) 0 in
     (λ t. all-valid f a (all .0 t), λ v. all .1 (valid-all f a v))
 
 -- ---- the check

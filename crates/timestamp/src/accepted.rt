@@ -11,9 +11,11 @@ ghost use Rattle.ion.specs.Fraction.{scale};
 ghost use Rattle.ion.specs.Check.{checkOf};
 ghost use Rattle.ion.specs.Accepted.{Valid};
 
-// Whether each field but the day and month is in its bounds.
+// Whether each field but the month and the day is in its bounds.
 fn in_bounds(f: Fields) -> bool
-    ensures { λ r. ⌜ r ≡ (leb 1 (f .year) && leb (f .year) 9999 && leb (f .hour) 23 && leb (f .minute) 59 && leb (f .second) 59 && leb (f .precision) 4 && leb (f .digits) 18 && ltb (f .offset .0) 2880) ⌝ }
+    ensures { λ r. ⌜ r ≡ (leb 1 (f .year) && leb (f .year) 9999
+        && leb (f .hour) 23 && leb (f .minute) 59 && leb (f .second) 59
+        && leb (f .precision) 4 && leb (f .digits) 18 && ltb (f .offset .0) 2880) ⌝ }
 {
     let offset = f.offset;
     let raw = offset.bits();
@@ -29,7 +31,10 @@ fn in_bounds(f: Fields) -> bool
 
 // Whether each field that the precision does not have has its first value.
 fn has_first_values(f: Fields) -> bool
-    ensures { λ r. ⌜ r ≡ ((leb 1 (f .precision) || eqb (f .month) 1) && (leb 2 (f .precision) || eqb (f .day) 1) && (leb 3 (f .precision) || (eqb (f .hour) 0 && eqb (f .minute) 0 && eqb (f .offset .0) 0)) && (leb 4 (f .precision) || (eqb (f .second) 0 && eqb (f .digits) 0))) ⌝ }
+    ensures { λ r. ⌜ r ≡ ((leb 1 (f .precision) || eqb (f .month) 1)
+        && (leb 2 (f .precision) || eqb (f .day) 1)
+        && (leb 3 (f .precision) || (eqb (f .hour) 0 && eqb (f .minute) 0 && eqb (f .offset .0) 0))
+        && (leb 4 (f .precision) || (eqb (f .second) 0 && eqb (f .digits) 0))) ⌝ }
 {
     let offset = f.offset;
     let raw = offset.bits();
