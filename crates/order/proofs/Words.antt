@@ -1,9 +1,8 @@
 -- With the same offset two timestamps lie as the dates and times of their packed words do. Assumes nothing.
 use mathlib.Core.Path.{_≡_, sym, ap, ap₂, _∙_}
 use mathlib.Core.Logic.{_⊎_, inl, inr}
-use Prim.Native.Nat.{ℕ, _+_, _*_, _/_, _%_, _^_, _≤_, _<_}
+use Prim.Native.Nat.{ℕ, _+_, _*_, _/_, _%_, _^_, _<_}
 use native.Mathlib.Omega.{arith}
-use lib.IntN.{ℤ, pos}
 use Rattle.integers.proofs.Parts.{up, down}
 use Rattle.ion.specs.Offset.{rawIs, offsetOf, minutesOf}
 use Rattle.ion.specs.Calendar.{IsDate, Earlier, dayNumber}
