@@ -1,5 +1,5 @@
 -- What is answered about two timestamps, by the number of their checks. Assumes nothing.
-use mathlib.Core.Path.{_≡_, ap, _∙_}
+use mathlib.Core.Path.{_≡_, ap}
 use mathlib.Core.Bool.{false}
 use Prim.Native.Nat.{ℕ, _/_, _%_, _^_}
 use native.Mathlib.Decide.{ℕ-discrete}
@@ -13,9 +13,6 @@ use Rattle.ion.specs.Count.{countOf}
 use Rattle.ion.specs.Order.{numberOfTwo, orderOf, ionOrder, gapOf, cmpOf, eqOf, ionEqOf, ionCmpOf, distanceOf}
 use Rattle.ion.specs.declared.Timestamp.{Timestamp}
 use Rattle.ion.specs.declared.Built.{Built}
-use Rattle.ion.specs.declared.Ordered.{Ordered}
-use Rattle.ion.specs.declared.Compared.{Compared}
-use Rattle.ion.specs.declared.Distance.{Distance}
 use Rattle.timestamp.proofs.Accepts.{check-gives, check-accepts}
 use Rattle.timestamp.proofs.Told.{if-zero, if-refused}
 use Rattle.order.specs.Answers.{ordered, compared, distanceOfCounts}

@@ -1,5 +1,5 @@
 -- Two local times by one clock lie as the two instants do. Assumes nothing.
-use mathlib.Core.Path.{_≡_, sym, ap, ap₂, _∙_}
+use mathlib.Core.Path.{_≡_, ap₂, _∙_}
 use Prim.Native.Nat.{ℕ, _+_, _*_, _^_, _≤_, _<_}
 use native.Mathlib.Omega.{arith}
 use lib.IntN.{ℤ, pos, negℤ, natAbs, _+ℤ_, _-ℤ_}
@@ -9,7 +9,7 @@ use Rattle.ion.specs.Offset.{WithinDay, offsetOf, minutesOf}
 use Rattle.ion.specs.Accepted.{timeIn, dateIn, Valid}
 use Rattle.ion.specs.Shift.{minuteNumber}
 use Rattle.ion.specs.Count.{offsetIn, countIn}
-use Rattle.ion.specs.Order.{orderOf, gapOf}
+use Rattle.ion.specs.Order.{orderOf}
 use Rattle.ion.specs.declared.Fields.{Fields}
 use Rattle.ion.specs.declared.offset.Offset.{Offset}
 use Rattle.ion.specs.declared.offset.Offset.the-variants.{Unknown, Known}

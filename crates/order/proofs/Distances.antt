@@ -12,7 +12,7 @@ use Rattle.ion.specs.Count.{countOf}
 use Rattle.ion.specs.Order.{orderOf, gapOf, cmpOf, distanceOf}
 use Rattle.ion.specs.declared.Timestamp.{Timestamp}
 use Rattle.ion.specs.declared.Distance.{Distance}
-use Rattle.order.specs.Answers.{distant, distanceOfCounts}
+use Rattle.order.specs.Answers.{distant}
 use Rattle.order.proofs.Orders.{order-less, order-more, order-same, order-turned}
 use Rattle.order.proofs.Gaps.{gap-sym}
 use Rattle.order.proofs.Answers.{both-zero, distance-zero}

@@ -1,9 +1,8 @@
 -- With the same offset two timestamps lie as the dates and times of their packed words do. Assumes nothing.
 use mathlib.Core.Path.{_≡_, sym, ap, ap₂, _∙_}
 use mathlib.Core.Logic.{_⊎_, inl, inr}
-use Prim.Native.Nat.{ℕ, _+_, _*_, _/_, _%_, _^_, _≤_, _<_}
+use Prim.Native.Nat.{ℕ, _+_, _*_, _/_, _%_, _^_, _<_}
 use native.Mathlib.Omega.{arith}
-use lib.IntN.{ℤ, pos}
 use Rattle.integers.proofs.Parts.{up, down}
 use Rattle.ion.specs.Offset.{rawIs, offsetOf, minutesOf}
 use Rattle.ion.specs.Calendar.{IsDate, Earlier, dayNumber}
@@ -44,20 +43,22 @@ date-alike s t p q = go (date-order s t)
 
 -- ---- dates and times
 
+-- the date and the hour, and the minute, and the second
 abbrev hourWord : Fields → ℕ
 hourWord f = dateWord (dateIn f) * 2 ^ 5 + f .hour
 
 abbrev minuteWord : Fields → ℕ
 minuteWord f = hourWord f * 2 ^ 6 + f .minute
 
--- the word above its precision
 abbrev pub timeWord : Fields → ℕ
 timeWord f = minuteWord f * 2 ^ 6 + f .second
 
+-- what a word has above its precision
 pub time-word : (f : Fields) → InRange f → wordOf f / 2 ^ 24 ≡ timeWord f
 unfolding wordOf
 time-word f h = omega arith
 
+-- whole hours, minutes and seconds by the local clock
 abbrev hoursIn : Fields → ℕ
 hoursIn f = dayNumber (dateIn f) * 24 + f .hour
 
@@ -108,15 +109,18 @@ module _ (f g : Fields) (p : IsLocal f) (q : IsLocal g) where
 
 -- ---- accepted timestamps
 
+cut-word : {s : Timestamp} → Accepted s → wordIn s / 2 ^ 24 ≡ timeWord (fieldsOf (wordIn s))
+cut-word p = ap (λ (w : ℕ). w / 2 ^ 24) (sym (accepted-word p)) ∙ time-word _ (valid-in-range (p .fields))
+
+cut-low : {s : Timestamp} → Accepted s → wordIn s % 2 ^ 24 ≡ lowWord (fieldsOf (wordIn s))
+cut-low p = ap (λ (w : ℕ). w % 2 ^ 24) (sym (accepted-word p)) ∙ low-word _ (valid-in-range (p .fields))
+
 module _ (s t : Timestamp) (p : Accepted s) (q : Accepted t) (e : fieldsOf (wordIn s) .offset .0 ≡ fieldsOf (wordIn t) .offset .0) where
   -- the words cut at the second lie as the instants do
   cut-alike : orderOf (wordIn s / 2 ^ 24) (wordIn t / 2 ^ 24) ≡ orderOf (utcSeconds (fieldsOf (wordIn s))) (utcSeconds (fieldsOf (wordIn t)))
   cut-alike =
-      let f = fieldsOf (wordIn s) in
-      let g = fieldsOf (wordIn t) in
-      let k : wordIn s / 2 ^ 24 ≡ timeWord f = ap (λ (w : ℕ). w / 2 ^ 24) (sym (accepted-word p)) ∙ time-word f (valid-in-range (p .fields)) in
-      let l : wordIn t / 2 ^ 24 ≡ timeWord g = ap (λ (w : ℕ). w / 2 ^ 24) (sym (accepted-word q)) ∙ time-word g (valid-in-range (q .fields)) in
-      ap₂ orderOf k l ∙ offset-alike f g (valid-local (p .fields)) (valid-local (q .fields)) (ap (λ (n : ℕ). minutesOf (offsetOf (rawIs n))) e)
+      ap₂ orderOf (cut-word p) (cut-word q)
+      ∙ offset-alike (fieldsOf (wordIn s)) (fieldsOf (wordIn t)) (valid-local (p .fields)) (valid-local (q .fields)) (ap (λ (n : ℕ). minutesOf (offsetOf (rawIs n))) e)
 
   pub cut-order : orderOfPairs (wordIn s / 2 ^ 24) (s .attoseconds) (wordIn t / 2 ^ 24) (t .attoseconds) ≡ orderOf (countOf s) (countOf t)
   unfolding countOf
@@ -129,13 +133,7 @@ module _ (s t : Timestamp) (p : Accepted s) (q : Accepted t) (e : fieldsOf (word
       fieldsOf (wordIn s) .precision ≡ fieldsOf (wordIn t) .precision →
       fieldsOf (wordIn s) .digits ≡ fieldsOf (wordIn t) .digits →
       orderOf (wordIn s) (wordIn t) ≡ orderOf (wordIn s / 2 ^ 24) (wordIn t / 2 ^ 24)
-  word-alike h k =
-      let f = fieldsOf (wordIn s) in
-      let g = fieldsOf (wordIn t) in
-      let l : wordIn s % 2 ^ 24 ≡ lowWord f = ap (λ (w : ℕ). w % 2 ^ 24) (sym (accepted-word p)) ∙ low-word f (valid-in-range (p .fields)) in
-      let r : wordIn t % 2 ^ 24 ≡ lowWord g = ap (λ (w : ℕ). w % 2 ^ 24) (sym (accepted-word q)) ∙ low-word g (valid-in-range (q .fields)) in
-      let z : wordIn s % 2 ^ 24 ≡ wordIn t % 2 ^ 24 = omega arith in
-      same-low (wordIn s) (wordIn t) z
+  word-alike h k = let l = cut-low p in let r = cut-low q in same-low (wordIn s) (wordIn t) (omega arith)
 
   pub word-order :
       fieldsOf (wordIn s) .precision ≡ fieldsOf (wordIn t) .precision →

@@ -6,6 +6,7 @@ ghost use Rattle.ion.specs.Order.{gapOf};
 ghost use Rattle.order.specs.Answers.{distant, distanceOfCounts};
 ghost use Rattle.order.specs.Counts.{orderOfPairs};
 
+// Attoseconds in a second.
 const SECOND: u64 = 1_000_000_000_000_000_000;
 
 // -1, 0 or 1, by the first numbers and then by the second.

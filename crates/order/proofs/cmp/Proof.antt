@@ -21,7 +21,7 @@ zero : (c : tie.Else1) → let x = c .before .before .args in numberOfTwo (x .s)
 zero c = sym (c .before .number-of-two .ensures) ∙ c .if1 .left
 
 order-of-requires : tie.Need-order-of-requires
-order-of-requires c κs = both-accepted _ _ (zero c)
+order-of-requires c κs = let x = c .before .before .args in let p = both-accepted (x .s) (x .t) (zero c) in search needs
 
 returns-2 : tie.Need-returns-2
 returns-2 c = ap ordered (toZ-ofZ (sfits-of (c .order-of .ok)) ∙ c .order-of .ensures) ∙ sym (cmp-zero _ _ (zero (c .before)))

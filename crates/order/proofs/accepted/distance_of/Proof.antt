@@ -1,5 +1,5 @@
 -- `order::accepted::distance_of` meets its contract. Assumes nothing.
-use mathlib.Core.Path.{_≡_, ap, _∙_}
+use mathlib.Core.Path.{ap, _∙_}
 use Prim.Native.Nat.{_+_, _*_, _^_}
 use borrow.Author.Needs.{needs}
 use Rattle.ion.specs.Count.{countOf}

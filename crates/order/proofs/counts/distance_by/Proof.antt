@@ -1,10 +1,8 @@
 -- `order::counts::distance_by` meets its contract. Assumes nothing.
-use mathlib.Core.Path.{_≡_}
-use Prim.Native.Nat.{ℕ, _+_, _-_, _*_, _^_, _≤_, _<_}
+use Prim.Native.Nat.{_+_, _-_, _^_, _≤_, _<_}
 use native.Mathlib.Omega.{arith}
 use mir.Facts.{toZ-ofZ}
 use borrow.Author.Needs.{needs}
-use Rattle.ion.specs.Order.{gapOf}
 use Rattle.order.proofs.Gaps.{whole-le, whole-lt, gap-plain, gap-borrowed, gap-is}
 use Rattle.order.proofs.counts.distance_by.Statement.{statement}
 use Rattle.order.proofs.counts.distance_by.Tie as tie

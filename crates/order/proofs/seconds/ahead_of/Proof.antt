@@ -7,7 +7,6 @@ use borrow.Author.Needs.{needs, sfits-of}
 use Rattle.ion.specs.Offset.{minutesOf}
 use Rattle.ion.specs.Count.{offsetIn}
 use Rattle.ion.specs.declared.offset.OffsetMinutes.{OffsetMinutes}
-use Rattle.ion.specs.declared.offset.Offset.{Offset}
 use Rattle.order.proofs.seconds.ahead_of.Statement.{statement}
 use Rattle.order.proofs.seconds.ahead_of.Tie as tie
 
@@ -20,10 +19,10 @@ second c = ap (λ (m : OffsetMinutes). m .0) (c .minutes-of2 .ensures) ∙ ap mi
 
 less-requires : tie.Need-less-requires
 less-requires c κs =
-    let p = c .before .before .before .before .pre in (
-      subst (λ (z : ℤ). natAbs z < 1440) (sym (first (c .before .before))) (p .0 .offset),
-      subst (λ (z : ℤ). natAbs z < 1440) (sym (second c)) (p .1 .offset),
-    )
+    let p = c .before .before .before .before .pre in
+    let h = subst (λ (z : ℤ). natAbs z < 1440) (sym (first (c .before .before))) (p .0 .offset) in
+    let k = subst (λ (z : ℤ). natAbs z < 1440) (sym (second c)) (p .1 .offset) in
+    search (h, k)
 
 returns : tie.Need-returns
 returns c = toZ-ofZ (sfits-of (c .less .ok)) ∙ c .less .ensures ∙ ap₂ _-ℤ_ (first (c .before .before .before)) (second (c .before))

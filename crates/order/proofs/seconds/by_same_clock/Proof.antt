@@ -1,16 +1,12 @@
 -- `order::seconds::by_same_clock` meets its contract. Assumes nothing.
-use mathlib.Core.Path.{_≡_, sym, ap₂, subst, _∙_}
+use mathlib.Core.Path.{_≡_, sym, subst, _∙_}
 use Prim.Native.Nat.{_<_}
-use native.Mathlib.Omega.{arith}
 use lib.Dec.{lit<}
 use lib.IntN.{ℤ, pos, natAbs}
 use mir.Syntax.{w32}
 use mir.Val.{toZ, ofZ}
 use mir.Facts.{toZ-ofZ}
 use borrow.Author.Needs.{needs, sfits-of}
-use Rattle.ion.specs.Pair.{wordIn}
-use Rattle.ion.specs.Word.{fieldsOf}
-use Rattle.ion.specs.declared.Fields.{Fields}
 use Rattle.order.specs.Local.{IsLocal, secondsAt, aheadOf}
 use Rattle.order.proofs.Clocks.{valid-local, ahead-small}
 use Rattle.order.proofs.seconds.by_same_clock.Statement.{statement}

@@ -1,5 +1,4 @@
 -- `order::seconds::minute_number` meets its contract. Assumes nothing.
-use mathlib.Core.Path.{_≡_}
 use native.Mathlib.Omega.{arith}
 use borrow.Author.Needs.{needs}
 use Rattle.order.proofs.Clocks.{minutes-below}
