@@ -1,7 +1,4 @@
 // The parts of a body, each in its shortest form.
-use crate::BodyRead;
-use crate::FieldsRead;
-use crate::FractionRead;
 use binary::int;
 use binary::var_int;
 use binary::var_uint;
@@ -20,6 +17,27 @@ ghost use lib.ListN.{length, drop};
 ghost use Rattle.ion.specs.Int.{readInt};
 ghost use Rattle.ion.specs.Decode.{signedOffset, coefficientFrom, decodeFields, decodeFraction, firstValues, precisionWith, afterOffset, decodeBody};
 ghost use Rattle.timestamp_binary.specs.Parsed.{FieldsAre, fractionIn, bodyIn};
+
+// The parts of a body, or that the bytes are none.
+pub(crate) enum BodyRead {
+    Parts(Body),
+    Nothing,
+}
+
+// Up to six fields, with the first values of those that are not there, how many there are, and the index after them; or
+// that something there is no field.
+struct FieldsRead {
+    found: bool,
+    values: [u32; 6],
+    count: usize,
+    next: usize,
+}
+
+// The digits of a fraction and its coefficient, or that the bytes are no fraction.
+enum FractionRead {
+    Parts(u32, u64),
+    Nothing,
+}
 
 // Negative zero is unknown.
 fn signed_offset(negative: bool, magnitude: u64) -> Offset
@@ -160,7 +178,7 @@ fn after_offset(s: &[u8], at: usize, offset: Offset) -> BodyRead
 }
 
 // The parts of the body that `s` is, all of it.
-pub fn decode_body(s: &[u8]) -> BodyRead
+pub(crate) fn decode_body(s: &[u8]) -> BodyRead
     ensures { λ r. ⌜ bodyIn r ≡ decodeBody (now (s .entry)) ⌝ }
 {
     match var_int::read_i64(s, 0, 1439) {
