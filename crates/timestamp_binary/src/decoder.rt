@@ -39,6 +39,9 @@ enum FractionRead {
     Nothing,
 }
 
+// The fields that a body does not have.
+const FIRST_VALUES: [u32; 6] = [0, 1, 1, 0, 0, 0];
+
 // Negative zero is unknown.
 fn signed_offset(negative: bool, magnitude: u64) -> Offset
     requires { ⌜ magnitude ≤ 1439 ⌝ }
@@ -53,13 +56,13 @@ fn signed_offset(negative: bool, magnitude: u64) -> Offset
     Offset::Known(OffsetMinutes::new(-(magnitude as i32)))
 }
 
-// That there is something that is no field.
+// The answer where something is no field.
 fn no_fields() -> FieldsRead
     ensures { λ r. ⌜ (r .found ≡ false) × (r .values ≡ firstValues) × (r .count ≡ 0) ⌝ }
 {
     FieldsRead {
         found: false,
-        values: [0, 1, 1, 0, 0, 0],
+        values: FIRST_VALUES,
         count: 0,
         next: 0,
     }
@@ -69,7 +72,7 @@ fn no_fields() -> FieldsRead
 fn read_fields(s: &[u8], at: usize) -> FieldsRead
     ensures { λ r. ⌜ FieldsAre (now (s .entry)) (decodeFields 6 (drop at (now (s .entry)))) r ⌝ }
 {
-    let mut values: [u32; 6] = [0, 1, 1, 0, 0, 0];
+    let mut values = FIRST_VALUES;
     let mut count: usize = 0;
     let mut next = at;
     while count < 6 {
