@@ -1,22 +1,21 @@
 -- A body is read back as its parts. Assumes nothing.
 use mathlib.Core.Path.{_≡_, refl, sym, ap, ap₂, _∙_}
-use mathlib.Core.Bool.{Bool, true, false, cond, not, _&&_}
+use mathlib.Core.Bool.{Bool, true, cond}
 use mathlib.Core.List.{List, [], _∷_, _++_, append-assoc}
-use Prim.Native.Nat.{ℕ, zero, suc, _+_, _-_, _^_, _≤_, _<_}
+use Prim.Native.Nat.{ℕ, zero, suc, _+_, _^_, _≤_, _<_}
 use native.Mathlib.Omega.{arith}
 use borrow.Author.Tests.{lt-ltb, ne-eqb}
 use lib.Dec.{lit≤, lit<}
 use lib.IntN.{ℤ, pos, negsuc, natAbs}
 use lib.ListN.{length, take, drop, getD, length-append}
 use lib.Seq.{drop-at}
-use Rattle.places.specs.Places.{countIn, count, placeCount}
 use Rattle.ion.specs.VarUInt.{varuint, groupCount, readVarUInt}
 use Rattle.ion.specs.VarInt.{signed, varint, isNegative, readVarInt}
 use Rattle.ion.specs.Int.{int, readInt}
 use Rattle.ion.specs.Decimal.{decimalBytes}
 use Rattle.ion.specs.Offset.{WithinDay, minutesIs, rawIs}
 use Rattle.ion.specs.Value.{offsetBytes, varuints, fieldList, fieldCount, fractionBytes, bodyFrom}
-use Rattle.ion.specs.Decode.{Decoded, found, nothing, signedOffset, offsetFrom, decodeOffset, oneMore, fieldFrom, decodeFields, fractionFrom, decodeFraction, filled, precisionWith, fieldsFrom, bodyIs, afterFields, afterOffset, fromOffset, decodeBody, isFieldCount}
+use Rattle.ion.specs.Decode.{found, nothing, signedOffset, offsetFrom, decodeOffset, oneMore, fieldFrom, decodeFields, fractionFrom, decodeFraction, filled, precisionWith, fieldsFrom, afterFields, afterOffset, fromOffset, decodeBody, isFieldCount}
 use Rattle.ion.specs.declared.Fields.{Fields}
 use Rattle.ion.specs.declared.Body.{Body}
 use Rattle.ion.specs.declared.offset.Offset.{Offset}

@@ -1,12 +1,11 @@
 -- Whatever is read as the parts of a body is their body. Assumes nothing.
 use mathlib.Core.Path.{_≡_, refl, sym, ap, ap₂, _∙_}
-use mathlib.Core.Bool.{Bool, true, false, cond, not, _&&_, and-eq-true-iff, false≢true}
+use mathlib.Core.Bool.{Bool, true, false, cond, _&&_, and-eq-true-iff, false≢true}
 use mathlib.Core.List.{List, [], _∷_, _++_, append-assoc}
-use Prim.Native.Nat.{ℕ, zero, suc, _+_, _-_, _^_, _≤_, _<_}
+use Prim.Native.Nat.{ℕ, zero, suc, _+_, _^_, _≤_, _<_}
 use native.Mathlib.Omega.{arith}
 use borrow.Author.Tests.{ltb-true}
-use lib.Dec.{eqb, ltb, lit≤, lit<}
-use lib.IntN.{ℤ, pos, negsuc, natAbs}
+use lib.Dec.{ltb, lit<}
 use lib.ListN.{length, take, drop, getD}
 use lib.Seq.{getD-drop, getD-append-add}
 use Rattle.ion.specs.VarUInt.{varuint, readVarUInt}

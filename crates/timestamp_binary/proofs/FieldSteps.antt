@@ -2,7 +2,7 @@
 use mathlib.Core.Path.{_≡_, refl, sym, ap, ap₂, _∙_}
 use mathlib.Core.Bool.{Bool, true, false, cond, not, _&&_}
 use mathlib.Core.List.{List, [], _∷_, _++_, append-assoc, append-nil}
-use Prim.Native.Nat.{ℕ, zero, suc, _+_, _-_, _≤_, _<_, min}
+use Prim.Native.Nat.{ℕ, suc, _+_, _-_, _≤_, _<_}
 use native.Mathlib.Numerals.{add-one}
 use native.Mathlib.Omega.{arith}
 use lib.Dec.{eqb}
@@ -10,13 +10,12 @@ use lib.ListN.{length, take, drop, set, take-append-drop, length-append, length-
 use lib.Seq.{drop-drop, drop-set-lt, take-suc-set, length-take-le}
 use Rattle.ion.specs.VarUInt.{readVarUInt}
 use Rattle.ion.specs.Decode.{Decoded, found, nothing, oneMore, fieldFrom, decodeFields, decodeFraction, firstValues, filled, precisionWith, fieldsFrom, bodyIs, afterFields, afterOffset, isFieldCount}
-use Rattle.ion.specs.Offset.{rawIs}
 use Rattle.ion.specs.declared.Body.{Body}
 use Rattle.ion.specs.declared.VarUIntRead.{VarUIntRead}
 use Rattle.ion.specs.declared.VarUIntRead.the-variants as uint
 use Rattle.ion.specs.declared.offset.Offset.{Offset}
-use Rattle.timestamp_binary.specs.Parsed.{fieldsIn, FieldsAre}
-use Rattle.timestamp_binary.specs.declared.FieldsRead.{FieldsRead}
+use Rattle.timestamp_binary.specs.Parsed.{FieldsAre}
+use Rattle.timestamp_binary.specs.declared.decoder.FieldsRead.{FieldsRead}
 
 -- ---- one field a turn
 

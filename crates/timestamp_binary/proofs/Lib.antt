@@ -1,10 +1,3 @@
-pub mod PartsTested
-pub mod PartsReadings
-pub mod ReadSteps
-pub mod BodyParts
-pub mod FieldSteps
-pub mod FractionRuns
-pub mod FieldRuns
 pub mod DecodeBack
 pub mod DecodeIs
 pub mod UtcTime
@@ -13,3 +6,12 @@ pub mod LocalFields
 pub mod Lengths
 pub mod Values
 pub mod Readings
+pub mod Minus
+pub mod FieldRuns
+pub mod FractionRuns
+pub mod BodyParts
+pub mod HeaderStored
+pub mod FieldSteps
+pub mod PartsTested
+pub mod PartsReadings
+pub mod ReadSteps

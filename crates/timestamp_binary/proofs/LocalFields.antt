@@ -1,12 +1,11 @@
 -- Parts of a body that are acceptable are those of the fields and attoseconds that they give, which are valid. Assumes nothing.
-use mathlib.Core.Path.{_≡_, refl, sym, ap, ap₂, _∙_}
-use Prim.Native.Nat.{ℕ, _+_, _*_, _/_, _%_, _^_, _≤_, _<_, min}
+use mathlib.Core.Path.{_≡_, refl, sym, ap, _∙_}
+use Prim.Native.Nat.{ℕ, _*_, _/_, _^_, _≤_, _<_, min}
 use native.Mathlib.Nat.{mul-mod-left, mul-div-cancel}
 use native.Mathlib.Omega.{arith}
-use lib.IntN.{ℤ, natAbs, negℤ}
 use Rattle.integers.proofs.Parts.{down}
 use Rattle.ion.specs.Offset.{WithinDay, rawIs, offsetOf, rawOf}
-use Rattle.ion.specs.Shift.{IsDateTime, minuteNumber, shifted}
+use Rattle.ion.specs.Shift.{IsDateTime, minuteNumber}
 use Rattle.ion.specs.Fraction.{scale}
 use Rattle.ion.specs.Accepted.{Valid, timeIn}
 use Rattle.ion.specs.Utc.{withTime, utcBy, utcFields}

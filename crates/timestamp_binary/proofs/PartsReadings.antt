@@ -1,19 +1,18 @@
 -- What the reader answers for a body's parts is what it answers for its bytes. Assumes nothing.
-use mathlib.Core.Path.{_≡_, refl, sym, ap, ap₂, subst, _∙_}
+use mathlib.Core.Path.{_≡_, refl, sym, ap, subst, _∙_}
 use mathlib.Core.Bool.{Bool, true, false, cond, _&&_, and-eq-true-iff}
 use mathlib.Core.List.{List}
 use mathlib.Core.Logic.{inl, inr}
-use Prim.Native.Nat.{ℕ, _≤_, _<_}
-use native.Mathlib.Omega.{arith}
+use Prim.Native.Nat.{ℕ, _≤_}
 use borrow.Author.Tests.{eqb-true}
 use lib.Dec.{eqb}
 use Rattle.ion.specs.Refusal.{bodyRefused}
-use Rattle.ion.specs.Pair.{wordIn, pairIs}
-use Rattle.ion.specs.Word.{wordOf, fieldsOf}
+use Rattle.ion.specs.Pair.{wordIn}
+use Rattle.ion.specs.Word.{fieldsOf}
 use Rattle.ion.specs.Check.{checkOf}
 use Rattle.ion.specs.Accepted.{Valid, Accepted}
 use Rattle.ion.specs.Value.{bodyFrom, bodyOf}
-use Rattle.ion.specs.Decode.{Decoded, found, nothing, decodeBody, pairFrom, localBy}
+use Rattle.ion.specs.Decode.{found, nothing, decodeBody, pairFrom, localBy}
 use Rattle.ion.specs.ReadValue.{refusedReading, acceptedReading, same, isBodyOf, takenAs, readBody}
 use Rattle.ion.specs.declared.Fields.{Fields}
 use Rattle.ion.specs.declared.Body.{Body}

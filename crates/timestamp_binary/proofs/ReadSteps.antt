@@ -3,7 +3,7 @@ use mathlib.Core.Path.{_≡_, refl}
 use mathlib.Core.List.{List, [], _∷_}
 use Prim.Native.Nat.{ℕ, _+_, _-_, _≤_, _<_}
 use native.Mathlib.Omega.{arith}
-use borrow.Author.Tests.{lt-ltb, le-ltb, eq-eqb, ne-eqb}
+use borrow.Author.Tests.{lt-ltb, le-ltb, ne-eqb}
 use lib.ListN.{length, take}
 use Rattle.ion.specs.Refusal.{inputEnds, firstByteRefused, bodyRefused}
 use Rattle.ion.specs.ReadValue.{refusedReading, readBody, readAfter, readLength, readOf}

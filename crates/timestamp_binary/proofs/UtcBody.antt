@@ -1,17 +1,16 @@
 -- The body of an accepted timestamp: its bytes tell its parts, and its parts give its fields back. Assumes nothing.
-use mathlib.Core.Path.{_≡_, refl, sym, ap, ap₂, _∙_}
+use mathlib.Core.Path.{_≡_, refl, sym, ap, _∙_}
 use mathlib.Core.Bool.{Bool, true, false, cond}
-use mathlib.Core.List.{List, []}
-use Prim.Native.Nat.{ℕ, zero, suc, _+_, _-_, _*_, _/_, _%_, _^_, _≤_, _<_}
+use Prim.Native.Nat.{ℕ, zero, suc, _*_, _/_, _^_, _≤_, _<_}
 use native.Mathlib.Nat.{div-add-mod', div-le-self}
 use native.Mathlib.Omega.{arith}
-use borrow.Author.Tests.{eqb-true, eqb-false}
+use borrow.Author.Tests.{eqb-true}
 use lib.Dec.{eqb, lit<}
-use lib.IntN.{ℤ, pos, negsuc, natAbs, negℤ, _-ℤ_, negℤ-negℤ}
+use lib.IntN.{pos, natAbs, negℤ, _-ℤ_, negℤ-negℤ}
 use lib.ListN.{getD}
 use Rattle.integers.proofs.Parts.{down, neg-parts, natAbs-parts}
-use Rattle.ion.specs.Calendar.{IsDate, isLeap}
-use Rattle.ion.specs.Offset.{WithinDay, rawIs, minutesIs, offsetOf, rawOf}
+use Rattle.ion.specs.Calendar.{isLeap}
+use Rattle.ion.specs.Offset.{rawIs, minutesIs, offsetOf, rawOf}
 use Rattle.ion.specs.Shift.{IsDateTime, minuteNumber, shifted}
 use Rattle.ion.specs.Fraction.{scale}
 use Rattle.ion.specs.Accepted.{Valid, timeIn}
@@ -20,7 +19,6 @@ use Rattle.ion.specs.Value.{fieldList}
 use Rattle.ion.specs.Decode.{localBy}
 use Rattle.ion.specs.declared.DateTime.{DateTime}
 use Rattle.ion.specs.declared.Fields.{Fields}
-use Rattle.ion.specs.declared.Body.{Body}
 use Rattle.ion.specs.declared.offset.RawOffset.{RawOffset}
 use Rattle.ion.specs.declared.offset.OffsetMinutes.{OffsetMinutes}
 use Rattle.ion.specs.declared.offset.Offset.{Offset}
@@ -28,7 +26,7 @@ use Rattle.ion.specs.declared.offset.Offset.the-variants.{Unknown, Known}
 use Rattle.ion.proofs.Offsets.{back-and-raw, back-within}
 use Rattle.calendar.proofs.Months.{month-to-twelve, month-most}
 use Rattle.calendar.proofs.Shifts.{shifted-is, shift-back, shift-room, shifted-year}
-use Rattle.fraction.proofs.Scales.{scale-pos, units-lt}
+use Rattle.fraction.proofs.Scales.{units-lt}
 use Rattle.timestamp_binary.specs.Encodable.{Encodable}
 use Rattle.timestamp_binary.specs.Acceptable.{Acceptable}
 use Rattle.timestamp_binary.specs.BodyFor.{bodyFor}

@@ -1,15 +1,15 @@
 -- A UTC time whose local year is 1 or more was not cut off at year 0. Assumes nothing.
-use mathlib.Core.Path.{_≡_, refl, sym, ap, _∙_}
+use mathlib.Core.Path.{_≡_, ap}
 use mathlib.Core.Bool.{Bool, true, false, cond}
-use Prim.Native.Nat.{ℕ, zero, suc, _+_, _-_, _*_, _/_, _≤_, _<_}
+use Prim.Native.Nat.{ℕ, _+_, _-_, _*_, _≤_, _<_}
 use native.Mathlib.Omega.{arith}
 use native.Mathlib.Decide.{decLe}
 use lib.Dec.{ltb, lit<}
 use lib.IntN.{ℤ, pos, negsuc, natAbs, _+ℤ_}
 use Rattle.integers.specs.Floor.{floorDiv}
-use Rattle.integers.proofs.Parts.{up, down, apart, add-parts, floor-div-parts, natAbs-parts, parts-eq}
-use Rattle.ion.specs.Calendar.{dayNumber, monthLength, prevDay}
-use Rattle.ion.specs.Shift.{dateOf, IsDateTime, minuteNumber, shifted, addDays}
+use Rattle.integers.proofs.Parts.{down, apart, add-parts, floor-div-parts, natAbs-parts, parts-eq}
+use Rattle.ion.specs.Calendar.{monthLength, prevDay}
+use Rattle.ion.specs.Shift.{dateOf, minuteNumber, shifted, addDays}
 use Rattle.ion.specs.declared.Date.{Date}
 use Rattle.ion.specs.declared.DateTime.{DateTime}
 use Rattle.calendar.proofs.Dates.{after-year-zero}

@@ -1,38 +1,32 @@
 -- The value of an accepted timestamp is read back, whatever follows it, and whatever is read begins with such a value.
 -- Assumes nothing.
 use mathlib.Core.Path.{_≡_, refl, sym, ap, ap₂, _∙_}
-use mathlib.Core.Bool.{Bool, true, false, cond, _&&_, _||_, and-eq-true-iff, false≢true}
-use mathlib.Core.List.{List, [], _∷_, _++_, append-assoc}
-use Prim.Native.Nat.{ℕ, zero, suc, _+_, _-_, _*_, _/_, _^_, _≤_, _<_}
+use mathlib.Core.Bool.{true, false, and-eq-true-iff, false≢true}
+use mathlib.Core.List.{List, [], _∷_, _++_}
+use Prim.Native.Nat.{ℕ, zero, suc, _+_, _-_, _*_, _/_, _≤_, _<_}
 use native.Mathlib.Nat.{div-le-self}
 use native.Mathlib.Omega.{arith}
 use native.Mathlib.Decide.{decLe}
-use borrow.Author.Tests.{lt-ltb, le-ltb, ltb-true, ltb-false, eq-eqb, ne-eqb, eqb-true, eqb-false}
-use lib.Dec.{eqb, ltb, lit<}
-use lib.ListN.{length, take, drop, getD, length-append, length-take, take-append-drop}
-use lib.Seq.{take-at, length-take-le}
-use Rattle.ion.specs.Refusal.{inputEnds, firstByteRefused, bodyRefused}
+use borrow.Author.Tests.{le-ltb, eq-eqb, ne-eqb, eqb-true}
+use lib.Dec.{eqb, lit<}
+use lib.ListN.{length, take, getD, length-append}
+use lib.Seq.{take-at}
 use Rattle.ion.specs.Calendar.{isLeap}
 use Rattle.ion.specs.Pair.{wordIn, pairIs}
 use Rattle.ion.specs.Word.{wordOf, fieldsOf}
 use Rattle.ion.specs.Fraction.{scale}
-use Rattle.ion.specs.Build.{accepted}
 use Rattle.ion.specs.Check.{checkOf}
-use Rattle.ion.specs.Accepted.{Valid, Accepted}
-use Rattle.ion.specs.Value.{offsetBytes, varuints, fieldList, fieldCount, fractionBytes, bodyFrom, bodyOf, header, valueOf}
-use Rattle.ion.specs.Decode.{Decoded, found, nothing, decodeBody, pairFrom, localBy}
-use Rattle.ion.specs.ReadValue.{refusedReading, acceptedReading, same, isBodyOf, takenAs, readBody, readAfter, readLength, readOf}
+use Rattle.ion.specs.Accepted.{Accepted}
+use Rattle.ion.specs.Value.{offsetBytes, varuints, fieldList, fieldCount, fractionBytes, bodyFrom, bodyOf, valueOf}
+use Rattle.ion.specs.Decode.{found, decodeBody, pairFrom}
+use Rattle.ion.specs.ReadValue.{acceptedReading, same, isBodyOf, takenAs, readBody, readAfter, readLength, readOf}
 use Rattle.ion.specs.declared.Fields.{Fields}
-use Rattle.ion.specs.declared.Body.{Body}
 use Rattle.ion.specs.declared.Built.{Built}
 use Rattle.ion.specs.declared.Timestamp.{Timestamp}
-use Rattle.ion.specs.declared.Read.{Read}
 use Rattle.calendar.proofs.Months.{month-to-twelve, month-most}
-use Rattle.timestamp.proofs.Accepts.{check-accepts, check-gives}
+use Rattle.timestamp.proofs.Accepts.{check-accepts}
 use Rattle.timestamp.proofs.Valid.{accepted-word}
 use Rattle.timestamp_binary.specs.BodyFor.{bodyFor}
-use Rattle.timestamp_binary.specs.Encodable.{Encodable}
-use Rattle.timestamp_binary.specs.Acceptable.{Acceptable}
 use Rattle.timestamp_binary.proofs.DecodeBack.{body-back}
 use Rattle.timestamp_binary.proofs.UtcBody.{encodable, acceptable, local-fields, attoseconds-back, utc-digits}
 use Rattle.timestamp_binary.proofs.Lengths.{offset-length, fields-length, fraction-length, header-short, header-long}

@@ -1,16 +1,16 @@
 -- What the parser of a body answers, as the definition of decoding has it. Assumes nothing.
 use mathlib.Core.Path.{_≡_}
-use mathlib.Core.Bool.{Bool, true, false, cond}
+use mathlib.Core.Bool.{cond}
 use mathlib.Core.List.{List}
 use Prim.Native.Nat.{ℕ, _≤_}
-use lib.ListN.{length, take, drop}
+use lib.ListN.{take, drop}
 use Rattle.ion.specs.Decode.{Decoded, found, nothing, filled}
 use Rattle.ion.specs.declared.Body.{Body}
-use Rattle.timestamp_binary.specs.declared.BodyRead.{BodyRead}
-use Rattle.timestamp_binary.specs.declared.BodyRead.the-variants as body
-use Rattle.timestamp_binary.specs.declared.FieldsRead.{FieldsRead}
-use Rattle.timestamp_binary.specs.declared.FractionRead.{FractionRead}
-use Rattle.timestamp_binary.specs.declared.FractionRead.the-variants as fraction
+use Rattle.timestamp_binary.specs.declared.decoder.BodyRead.{BodyRead}
+use Rattle.timestamp_binary.specs.declared.decoder.BodyRead.the-variants as body
+use Rattle.timestamp_binary.specs.declared.decoder.FieldsRead.{FieldsRead}
+use Rattle.timestamp_binary.specs.declared.decoder.FractionRead.{FractionRead}
+use Rattle.timestamp_binary.specs.declared.decoder.FractionRead.the-variants as fraction
 
 abbrev pub bodyIn : BodyRead → Decoded Body
 bodyIn (body.Parts x) = found x

@@ -1,7 +1,4 @@
 // The parts of a body, each in its shortest form.
-use crate::BodyRead;
-use crate::FieldsRead;
-use crate::FractionRead;
 use binary::int;
 use binary::var_int;
 use binary::var_uint;
@@ -21,6 +18,30 @@ ghost use Rattle.ion.specs.Int.{readInt};
 ghost use Rattle.ion.specs.Decode.{signedOffset, coefficientFrom, decodeFields, decodeFraction, firstValues, precisionWith, afterOffset, decodeBody};
 ghost use Rattle.timestamp_binary.specs.Parsed.{FieldsAre, fractionIn, bodyIn};
 
+// The parts of a body, or that the bytes are none.
+pub(crate) enum BodyRead {
+    Parts(Body),
+    Nothing,
+}
+
+// Up to six fields, with the first values of those that are not there, how many there are, and the index after them; or
+// that something there is no field.
+struct FieldsRead {
+    found: bool,
+    values: [u32; 6],
+    count: usize,
+    next: usize,
+}
+
+// The digits of a fraction and its coefficient, or that the bytes are no fraction.
+enum FractionRead {
+    Parts(u32, u64),
+    Nothing,
+}
+
+// The fields that a body does not have.
+const FIRST_VALUES: [u32; 6] = [0, 1, 1, 0, 0, 0];
+
 // Negative zero is unknown.
 fn signed_offset(negative: bool, magnitude: u64) -> Offset
     requires { ⌜ magnitude ≤ 1439 ⌝ }
@@ -35,13 +56,13 @@ fn signed_offset(negative: bool, magnitude: u64) -> Offset
     Offset::Known(OffsetMinutes::new(-(magnitude as i32)))
 }
 
-// That there is something that is no field.
+// The answer where something is no field.
 fn no_fields() -> FieldsRead
     ensures { λ r. ⌜ (r .found ≡ false) × (r .values ≡ firstValues) × (r .count ≡ 0) ⌝ }
 {
     FieldsRead {
         found: false,
-        values: [0, 1, 1, 0, 0, 0],
+        values: FIRST_VALUES,
         count: 0,
         next: 0,
     }
@@ -51,7 +72,7 @@ fn no_fields() -> FieldsRead
 fn read_fields(s: &[u8], at: usize) -> FieldsRead
     ensures { λ r. ⌜ FieldsAre (now (s .entry)) (decodeFields 6 (drop at (now (s .entry)))) r ⌝ }
 {
-    let mut values: [u32; 6] = [0, 1, 1, 0, 0, 0];
+    let mut values = FIRST_VALUES;
     let mut count: usize = 0;
     let mut next = at;
     while count < 6 {
@@ -160,7 +181,7 @@ fn after_offset(s: &[u8], at: usize, offset: Offset) -> BodyRead
 }
 
 // The parts of the body that `s` is, all of it.
-pub fn decode_body(s: &[u8]) -> BodyRead
+pub(crate) fn decode_body(s: &[u8]) -> BodyRead
     ensures { λ r. ⌜ bodyIn r ≡ decodeBody (now (s .entry)) ⌝ }
 {
     match var_int::read_i64(s, 0, 1439) {

@@ -9,7 +9,7 @@ use ion::Written;
 use ion::offset;
 use ion::offset::Offset;
 ghost use mathlib.Core.Path.{_≡_};
-ghost use Prim.Native.Nat.{_+_, _/_, _^_, _≤_, _<_};
+ghost use Prim.Native.Nat.{_+_, _/_, _≤_};
 ghost use lib.ListN.{length, take};
 ghost use Rattle.ion.specs.Fraction.{scale};
 ghost use Rattle.ion.specs.Output.{Run, putAfter, wroteAfter};
@@ -81,8 +81,8 @@ fn put_body(buf: &mut [u8], at: usize, s: Timestamp) -> usize
     ensures { λ r. ⌜ Run (now (buf .entry)) at (bodyOf s) (now (buf .exit)) r ⌝ }
 {
     let local = packed::unpack(s.packed_fields);
-    let o = offset::offset_of(local.offset);
     let utc = timestamp::utc_fields(local);
+    let o = offset::offset_of(local.offset);
     let fields = [
         utc.year,
         utc.month,
@@ -117,10 +117,10 @@ pub fn encode_timestamp(buf: &mut [u8], at: usize, s: Timestamp) -> Written
 pub fn encode_timestamp_value(buf: &mut [u8], at: usize, s: Timestamp) -> Written
     ensures { λ r. ⌜ (r ≡ wroteAfter (checkOf s .number) (now (buf .entry)) at (valueOf s)) × (now (buf .exit) ≡ putAfter (checkOf s .number) (now (buf .entry)) at (valueOf s)) ⌝ }
 {
-    let number = timestamp::number_of(s);
-    if number != 0 {
+    let check = timestamp::number_of(s);
+    if check != 0 {
         return Written {
-            number: number,
+            number: check,
             written: 0,
         };
     }

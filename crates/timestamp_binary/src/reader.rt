@@ -1,5 +1,5 @@
 // The reader of a value, which takes the writer's bytes and no others.
-use crate::BodyRead;
+use crate::decoder::BodyRead;
 use crate::decoder::decode_body;
 use ion::Body;
 use ion::Date;

@@ -1,9 +1,7 @@
 -- `decoder::decode_body` meets its contract. Assumes nothing.
 use borrow.Author.Needs.{needs}
 use mathlib.Core.Path.{_≡_, sym, ap, _∙_}
-use mathlib.Core.List.{List}
 use lib.ListN.{drop}
-use Rattle.ion.specs.VarInt.{readVarInt}
 use Rattle.ion.specs.Decode.{decodeFields, offsetFrom, decodeOffset, afterOffset, fromOffset, decodeBody}
 use Rattle.ion.specs.declared.VarIntRead.{VarIntRead}
 use Rattle.ion.specs.declared.offset.Offset.{Offset}

@@ -2,12 +2,13 @@
 -- Assumes nothing.
 use borrow.Author.Needs.{needs}
 use mathlib.Core.Path.{_≡_, refl, sym, ap, _∙_}
-use mathlib.Core.List.{[]}
-use Prim.Native.Nat.{_+_, _-_, _≤_, _<_}
+use mathlib.Core.List.{List, []}
+use Prim.Native.Nat.{ℕ, _+_, _-_, _≤_}
 use native.Mathlib.Omega.{arith}
 use lib.ListN.{length, take, drop, length-set, length-drop, drop-of-length-le}
 use lib.Seq.{drop-length}
-use Rattle.ion.specs.Decode.{decodeFields}
+use Rattle.ion.specs.Decode.{Decoded, nothing, fieldFrom, decodeFields}
+use Rattle.ion.specs.declared.VarUIntRead.{VarUIntRead}
 use Rattle.binary.proofs.VarUInts.{read-is, read-within}
 use Rattle.timestamp_binary.proofs.DecodeIs.{bytes-drop}
 use Rattle.timestamp_binary.proofs.FieldSteps.{joined, joined-none, Rest, rest-more, field-more, field-none, field-end, field-last, fields-done, fields-none}
@@ -63,23 +64,21 @@ loop-again c =
       l .inv .2 ∙ field-more s (l .values) (l .count) (l .next) _ _ (t .loop-test .taken) (r .before .if1 .left) (l .inv .1 .0) (sym (r .read-u64 .ensures) ∙ c .before .v .given .1),
     )
 
-returns-2 : tie.Need-returns-2 Inv-loop μ-loop
-returns-2 c =
-    let r = c .before .before .before in
-    let t = r .before .before in
+-- something that is no field makes nothing of all
+none : (c : tie.After-read-u64 Inv-loop μ-loop) (g : VarUIntRead) → c .read-u64 .result ≡ g → ((f : List ℕ → Decoded (List ℕ × List ℕ)) (u : List ℕ) → fieldFrom f u g ≡ nothing)
+    → let a = c .before .before .before .before .before .args in
+    decodeFields 6 (drop (a .at) (a .s .now)) ≡ nothing
+none c g e f =
+    let t = c .before .before in
     let l = t .before .loop in
     let s = t .before .before .before .args .s .now in
-    let n = field-none s (l .count) (l .next) _ (t .loop-test .taken) (r .before .if1 .left) (sym (r .read-u64 .ensures) ∙ c .before .enum-told .given .1) (λ f u. refl) in
-    fields-none s _ _ (l .inv .2 ∙ ap (joined (take (l .count) (l .values))) n) (c .no-fields .ensures)
+    l .inv .2 ∙ ap (joined (take (l .count) (l .values))) (field-none s (l .count) (l .next) g (t .loop-test .taken) (c .before .if1 .left) (sym (c .read-u64 .ensures) ∙ e) f)
+
+returns-2 : tie.Need-returns-2 Inv-loop μ-loop
+returns-2 c = fields-none _ _ _ (none (c .before .before .before) _ (c .before .enum-told .given .1) (λ f u. refl)) (c .no-fields .ensures)
 
 returns-3 : tie.Need-returns-3 Inv-loop μ-loop
-returns-3 c =
-    let r = c .before .before .before in
-    let t = r .before .before in
-    let l = t .before .loop in
-    let s = t .before .before .before .args .s .now in
-    let n = field-none s (l .count) (l .next) _ (t .loop-test .taken) (r .before .if1 .left) (sym (r .read-u64 .ensures) ∙ c .before .enum-told2 .given .1) (λ f u. refl) in
-    fields-none s _ _ (l .inv .2 ∙ ap (joined (take (l .count) (l .values))) n) (c .no-fields2 .ensures)
+returns-3 c = fields-none _ _ _ (none (c .before .before .before) _ (c .before .enum-told2 .given .1) (λ f u. refl)) (c .no-fields2 .ensures)
 
 returns-4 : tie.Need-returns-4 Inv-loop μ-loop
 returns-4 c =

@@ -9,7 +9,7 @@ use lib.ListN.{length, drop, length-drop, drop-of-length-le}
 use lib.Seq.{drop-drop}
 use Rattle.ion.specs.VarInt.{readVarInt}
 use Rattle.ion.specs.Int.{readInt}
-use Rattle.ion.specs.Decode.{Decoded, nothing, coefficientFrom, fractionFrom, decodeFraction}
+use Rattle.ion.specs.Decode.{nothing, coefficientFrom, fractionFrom, decodeFraction}
 use Rattle.binary.proofs.VarInts.{read-signed-is, read-signed-within}
 use Rattle.timestamp_binary.proofs.DecodeIs.{bytes-drop}
 use Rattle.timestamp_binary.proofs.decoder.read_fraction.Statement.{statement}

@@ -1,20 +1,17 @@
 -- `decoder::signed_offset` meets its contract. Assumes nothing.
 use borrow.Author.Needs.{needs}
 use borrow.Author.Tests.{not-true, not-false}
-use mathlib.Core.Path.{_≡_, refl, sym, ap, ap₂, _∙_}
+use mathlib.Core.Path.{_≡_, refl, ap, _∙_}
 use mathlib.Core.Bool.{Bool, true, false}
-use Prim.Native.Nat.{ℕ, zero, suc, _^_, _≤_, _<_}
+use Prim.Native.Nat.{ℕ, zero, suc, _^_, _<_}
 use native.Mathlib.Omega.{arith}
 use lib.IntN.{ℤ, pos, negℤ, _-ℤ_, +ℤ-idl}
 use mir.Syntax.{w32}
-use mir.Val.{SFits}
 use mir.Facts.{toZ-ofZ, toZ-pos}
 use Rattle.ion.specs.Offset.{minutesIs}
 use Rattle.ion.specs.Decode.{signedOffset}
-use Rattle.ion.specs.declared.offset.OffsetMinutes.{OffsetMinutes}
-use Rattle.ion.specs.declared.offset.Offset.{Offset}
 use Rattle.ion.specs.declared.offset.Offset.the-variants.{Unknown, Known}
-use Rattle.ion.proofs.Offsets.{difference-fits}
+use Rattle.timestamp_binary.proofs.Minus.{minus-fits}
 use Rattle.timestamp_binary.proofs.decoder.signed_offset.Statement.{statement}
 use Rattle.timestamp_binary.proofs.decoder.signed_offset.Tie as tie
 
@@ -29,9 +26,6 @@ unknown g m e z = rw (e, z)
 negative : (g : Bool) (m : ℕ) → g ≡ true → (m ≡ 0 → ⊥) → Known (minutesIs (pos 0 -ℤ pos m)) ≡ signedOffset g m
 negative g zero e n = absurd (n refl)
 negative g (suc m) e n = rw e (ap (λ (z : ℤ). Known (minutesIs z)) (+ℤ-idl (negℤ (pos (suc m)))))
-
-minus-fits : (m : ℕ) → m ≤ 1439 → SFits w32 (pos 0 -ℤ pos m)
-minus-fits m h = difference-fits (pos 0) (pos m) (omega arith) (omega arith)
 
 returns : tie.Need-returns
 returns c =
@@ -51,14 +45,14 @@ sub-new c =
     let s = c .before .before in
     let m = s .args .magnitude in
     let h : m < 2 ^ 31 = omega (arith, s .pre) in
-    simp (toZ-pos w32) (minus-fits m (s .pre))
+    simp (toZ-pos w32) (minus-fits w32 m h)
 
 returns-3 : tie.Need-returns-3
 returns-3 c =
     let s = c .before .before .before in
     let m = s .args .magnitude in
     let h : m < 2 ^ 31 = omega (arith, s .pre) in
-    let f = minus-fits m (s .pre) in
+    let f = minus-fits w32 m h in
     let e : c .new2 .result ≡ minutesIs (pos 0 -ℤ pos m) = simp (toZ-ofZ, toZ-pos w32) at (c .new2 .ensures) in
     ap Known e ∙ negative (s .args .negative) m (not-false _ (c .before .before .if1 .left)) (c .before .if2 .left)
 

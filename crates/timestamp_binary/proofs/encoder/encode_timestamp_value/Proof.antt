@@ -3,7 +3,7 @@ use borrow.Author.Needs.{needs}
 use borrow.Author.Tests.{eq-eqb, ne-eqb}
 use mathlib.Core.Path.{_≡_, refl, sym, _∙_}
 use mathlib.Core.List.{_∷_}
-use Prim.Native.Nat.{ℕ, _+_, _-_, _≤_}
+use Prim.Native.Nat.{_≤_}
 use native.Mathlib.Omega.{arith}
 use lib.Dec.{lit≤}
 use lib.ListN.{length, take, length-set}
@@ -15,7 +15,7 @@ use Rattle.ion.specs.Value.{bodyOf}
 use Rattle.output.proofs.Runs.{run-front}
 use Rattle.timestamp.proofs.Accepts.{check-gives}
 use Rattle.timestamp_binary.proofs.Values.{body-length}
-use Rattle.timestamp_binary.proofs.BodyParts.{stored-short, stored-long}
+use Rattle.timestamp_binary.proofs.HeaderStored.{stored-short, stored-long}
 use Rattle.timestamp_binary.proofs.encoder.encode_timestamp_value.Statement.{statement}
 use Rattle.timestamp_binary.proofs.encoder.encode_timestamp_value.Tie as tie
 

@@ -1,18 +1,14 @@
 -- `encoder::put_body` meets its contract: the three parts stand one after another. Assumes nothing.
 use borrow.Author.Needs.{needs}
-use mathlib.Core.Path.{_≡_, refl, sym, ap, ap₂, subst, _∙_}
+use mathlib.Core.Path.{_≡_, sym, ap, ap₂, subst, _∙_}
 use mathlib.Core.Bool.{Bool, true, false, cond}
-use mathlib.Core.List.{List, [], _∷_, _++_}
+use mathlib.Core.List.{List, _++_}
 use Prim.Native.Nat.{ℕ, _+_, _/_, _≤_}
 use native.Mathlib.Omega.{arith}
 use lib.Dec.{leb}
 use lib.ListN.{length, take, length-append}
-use Rattle.ion.specs.Pair.{wordIn}
-use Rattle.ion.specs.Word.{fieldsOf}
-use Rattle.ion.specs.Offset.{WithinDay, offsetOf}
-use Rattle.ion.specs.Shift.{IsDateTime}
 use Rattle.ion.specs.Fraction.{scale}
-use Rattle.ion.specs.Accepted.{Valid, timeIn}
+use Rattle.ion.specs.Accepted.{Valid}
 use Rattle.ion.specs.Value.{offsetBytes, varuints, fieldList, fieldCount, fractionBytes, bodyOf}
 use Rattle.ion.specs.declared.Fields.{Fields}
 use Rattle.ion.specs.declared.offset.Offset.{Offset}
@@ -30,7 +26,7 @@ local c =
 
 utc-fields-requires : tie.Need-utc-fields-requires
 utc-fields-requires c κs =
-    let v = local (c .before) in
+    let v = local c in
     (valid-time v, v .to-year, valid-offset v)
 
 field-count-requires : tie.Need-field-count-requires
@@ -39,10 +35,10 @@ field-count-requires c κs = local (c .before .before) .precision
 -- ---- the parts
 
 abbrev first : tie.After-field-count → List ℕ
-first c = offsetBytes (c .before .before .offset-of .result)
+first c = offsetBytes (c .before .offset-of .result)
 
 abbrev second : tie.After-field-count → List ℕ
-second c = varuints (take (c .field-count .result) (fieldList (c .before .utc-fields .result)))
+second c = varuints (take (c .field-count .result) (fieldList (c .before .before .utc-fields .result)))
 
 abbrev third : tie.After-field-count → List ℕ
 third c =
@@ -54,8 +50,8 @@ parts : (c : tie.After-field-count) → first c ++ (second c ++ third c) ≡ bod
 parts c =
     let u = c .before .before .before in
     let s = u .before .before in
-    ap₂ (λ (o : Offset) (n : ℕ). offsetBytes o ++ (varuints (take n (fieldList (c .before .utc-fields .result))) ++ third c)) (c .before .before .offset-of .ensures) (c .field-count .ensures)
-    ∙ sym (body-parts (s .args .s) (s .pre .0) (u .unpack .ensures) (c .before .utc-fields .ensures))
+    ap₂ (λ (o : Offset) (n : ℕ). offsetBytes o ++ (varuints (take n (fieldList (c .before .before .utc-fields .result))) ++ third c)) (c .before .offset-of .ensures) (c .field-count .ensures)
+    ∙ sym (body-parts (s .args .s) (s .pre .0) (u .unpack .ensures) (c .before .before .utc-fields .ensures))
 
 -- have room one after another
 room : (c : tie.After-field-count) → let a = c .before .before .before .before .before .args in a .at + (length (first c) + (length (second c) + length (third c))) ≤ length (a .buf .now)
@@ -102,8 +98,8 @@ put-body-spec =
     tie.close
     (tie.spec
     (λ c κs. search needs)
-    (λ c κs. search needs)
     utc-fields-requires
+    (λ c κs. search needs)
     field-count-requires
     put-offset-requires
     put-fields-requires

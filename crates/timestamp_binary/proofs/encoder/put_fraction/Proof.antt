@@ -1,7 +1,6 @@
 -- `encoder::put_fraction` meets its contract. Assumes nothing.
 use borrow.Author.Needs.{needs}
 use mathlib.Core.Path.{_≡_, sym, ap, _∙_}
-use mathlib.Core.List.{List}
 use Prim.Native.Nat.{ℕ, _/_, _^_, _<_}
 use native.Mathlib.Omega.{arith}
 use lib.IntN.{pos, _-ℤ_}
@@ -15,7 +14,8 @@ use Rattle.ion.specs.Value.{fractionBytes}
 use Rattle.fraction.proofs.Scales.{scale-pos}
 use Rattle.output.proofs.Runs.{run-none, run-is}
 use Rattle.timestamp_binary.proofs.DecodeBack.{no-fraction}
-use Rattle.timestamp_binary.proofs.FractionRuns.{minus-fits, fraction-some}
+use Rattle.timestamp_binary.proofs.Minus.{minus-fits}
+use Rattle.timestamp_binary.proofs.FractionRuns.{fraction-some}
 use Rattle.timestamp_binary.proofs.encoder.put_fraction.Statement.{statement}
 use Rattle.timestamp_binary.proofs.encoder.put_fraction.Tie as tie
 
@@ -27,15 +27,13 @@ returns c =
 div-coefficient : tie.Need-div-coefficient
 div-coefficient c = rw (c .scale .ensures) (scale-pos _)
 
-small : (c : tie.After-scale) → c .before .before .before .args .digits < 2 ^ 32
-small c = c .before .before .before .fits .digits .fits
+small : (c : tie.After-scale) → c .before .before .before .args .digits < 2 ^ 63
+small c = omega (arith, c .before .before .before .fits .digits .fits)
 
 sub-put-decimal : tie.Need-sub-put-decimal
 sub-put-decimal c =
-    let d = c .before .before .before .before .args .digits in
-    let s = small (c .before) in
-    let h : d < 2 ^ 63 = omega arith in
-    simp (toZ-pos w64) (minus-fits d s)
+    let h = small (c .before) in
+    simp (toZ-pos w64) (minus-fits w64 _ h)
 
 -- what is written is the fraction
 bytes : (c : tie.After-scale)
@@ -47,10 +45,8 @@ bytes c =
 
 put-decimal-requires : tie.Need-put-decimal-requires
 put-decimal-requires c κs =
-    let s = small (c .before) in
-    let d = c .before .before .before .before .args .digits in
-    let h : d < 2 ^ 63 = omega arith in
-    let f = minus-fits d s in
+    let h = small (c .before) in
+    let f = minus-fits w64 (c .before .before .before .before .args .digits) h in
     simp (toZ-ofZ, toZ-pos w64) (omega (arith, ap length (bytes (c .before))))
 
 returns-2 : tie.Need-returns-2
@@ -58,9 +54,8 @@ returns-2 c =
     let p = c .before .before in
     let k = p .before .before in
     let a = k .before .before .before .args in
-    let s = small k in
-    let h : a .digits < 2 ^ 63 = omega arith in
-    let f = minus-fits (a .digits) s in
+    let h = small k in
+    let f = minus-fits w64 (a .digits) h in
     let g : Run (a .buf .now) (a .at) (decimalBytes (a .attoseconds / k .scale .result) (pos 0 -ℤ pos (a .digits))) (p .put-decimal .last .0) (p .put-decimal .result) = simp (toZ-ofZ, toZ-pos w64) at (p .put-decimal .ensures) in
     run-is g (bytes k)
 

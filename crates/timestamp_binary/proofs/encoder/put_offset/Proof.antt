@@ -1,16 +1,13 @@
 -- `encoder::put_offset` meets its contract. Assumes nothing.
 use borrow.Author.Needs.{needs, sfits-of}
-use mathlib.Core.Path.{_≡_, refl, sym, ap, _∙_}
+use mathlib.Core.Path.{_≡_, sym, ap, _∙_}
 use mathlib.Core.Bool.{true}
-use mathlib.Core.List.{List}
-use Prim.Native.Nat.{ℕ, _+_, _≤_}
 use native.Mathlib.Omega.{arith}
 use lib.IntN.{ℤ, natAbs}
 use lib.ListN.{length}
 use mir.Syntax.{w32, w64}
 use mir.Val.{SFits}
-use mir.Facts.{toZ-ofZ}
-use Rattle.integers.proofs.Parts.{fit-parts, parts-fit}
+use mir.Facts.{toZ-ofZ, sfits-widen}
 use Rattle.ion.specs.Output.{Run}
 use Rattle.ion.specs.VarInt.{signedCount, isNegative, signed, varint}
 use Rattle.ion.specs.Value.{offsetBytes}
@@ -42,9 +39,6 @@ returns c =
 
 -- ---- known: the minutes keep their value in 64 bits
 
-wider : {z : ℤ} → SFits w32 z → SFits w64 z
-wider {z} f = let p = fit-parts w32 z f in parts-fit w64 z (omega arith) (omega arith)
-
 known : (o : Offset) (z : ℤ) {m : OffsetMinutes} → o ≡ Known m → z ≡ m .0 → (signedCount (natAbs z) ≡ length (offsetBytes o)) × (varint z ≡ offsetBytes o)
 unfolding offsetBytes varint
 known o z {m} e f =
@@ -54,14 +48,14 @@ known o z {m} e f =
 cast-put-i64 : tie.Need-cast-put-i64
 cast-put-i64 c =
     let f : SFits w32 (c .minutes .result) = sfits-of (c .minutes .ok) in
-    simp toZ-ofZ (wider f)
+    simp toZ-ofZ (sfits-widen tt f)
 
 put-i64-requires : tie.Need-put-i64-requires
 put-i64-requires c κs =
     let k = c .before .before .before in
     let s = k .before .before .before in
     let f : SFits w32 (c .minutes .result) = sfits-of (c .minutes .ok) in
-    let g = wider f in
+    let g : SFits w64 (c .minutes .result) = sfits-widen tt f in
     simp toZ-ofZ (omega (arith, known (s .args .o) (c .minutes .result) (k .o .given .1) (c .minutes .ensures) .0, s .pre))
 
 returns-2 : tie.Need-returns-2
@@ -71,7 +65,7 @@ returns-2 c =
     let k = m .before .before .before in
     let a = k .before .before .before .args in
     let f : SFits w32 (m .minutes .result) = sfits-of (m .minutes .ok) in
-    let g = wider f in
+    let g : SFits w64 (m .minutes .result) = sfits-widen tt f in
     let r : Run (a .buf .now) (a .at) (varint (m .minutes .result)) (p .put-i64 .last .0) (p .put-i64 .result) = simp toZ-ofZ at (p .put-i64 .ensures) in
     run-is r (known (a .o) (m .minutes .result) (k .o .given .1) (m .minutes .ensures) .1)
 

@@ -1,6 +1,6 @@
 -- `reader::local_fields` meets its contract. Assumes nothing.
 use borrow.Author.Needs.{needs}
-use mathlib.Core.Path.{_≡_, sym, ap, subst, _∙_}
+use mathlib.Core.Path.{sym, ap, subst, _∙_}
 use Rattle.ion.specs.Offset.{WithinDay}
 use Rattle.ion.specs.Accepted.{timeIn}
 use Rattle.ion.specs.Utc.{withTime}
