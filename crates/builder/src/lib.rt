@@ -1,5 +1,5 @@
-// The builder's stages: a struct for each around the fields given so far, with the setters of its next stages. So
-// a finer field is given only after the coarser one, a fraction only after the second, and an offset last.
+// The builder's stages: a struct for each around the fields given so far, with its setters and `build` in the file of
+// its name. A finer field is given only after the coarser one, a fraction only after the second, an offset last.
 mod counting;
 mod has_day;
 mod has_fractional_seconds;
