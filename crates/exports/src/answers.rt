@@ -1,17 +1,20 @@
 // Answers handed out: the number is returned, the rest is set through references.
+use ion::Attoseconds;
 use ion::Built;
 use ion::Compared;
+use ion::DecimalField;
 use ion::Distance;
 use ion::Field;
 use ion::OffsetField;
 use ion::Ordered;
+use ion::Read;
 use ion::Timestamp;
 use ion::Written;
 use ion::offset;
 use ion::offset::Offset;
 ghost use mathlib.Core.Path.{_≡_};
 ghost use Rattle.ion.specs.Pair.{pairIs};
-ghost use Rattle.exports.specs.Answers.{isKnown, BuiltIs, FieldIs, OffsetIs, OrderedIs, ComparedIs, DistanceIs, WrittenIs};
+ghost use Rattle.exports.specs.Answers.{isKnown, BuiltIs, FieldIs, AttosecondsIs, DecimalIs, OffsetIs, OrderedIs, ComparedIs, DistanceIs, WrittenIs, ReadIs};
 
 pub(crate) fn pair(word: u64, attoseconds: u64) -> Timestamp
     ensures { λ r. ⌜ r ≡ pairIs word attoseconds ⌝ }
@@ -35,6 +38,23 @@ pub(crate) fn hand_field(f: Field, value: &mut u32) -> u32
     ensures { λ r. ⌜ FieldIs f r (now (value .exit)) ⌝ }
 {
     *value = f.value;
+    f.number
+}
+
+pub(crate) fn hand_attoseconds(f: Attoseconds, value: &mut u64) -> u32
+    ensures { λ r. ⌜ AttosecondsIs f r (now (value .exit)) ⌝ }
+{
+    *value = f.value;
+    f.number
+}
+
+pub(crate) fn hand_decimal(f: DecimalField, coefficient: &mut u64, exponent: &mut i64) -> u32
+    ensures { λ r. ⌜ DecimalIs f r (now (coefficient .exit)) (now (exponent .exit)) ⌝ }
+{
+    let d = f.value;
+    let power = d.exponent;
+    *coefficient = d.coefficient;
+    *exponent = power;
     f.number
 }
 
@@ -91,4 +111,14 @@ pub(crate) fn hand_written(w: Written, written: &mut usize) -> u32
 {
     *written = w.written;
     w.number
+}
+
+pub(crate) fn hand_read(x: Read, word: &mut u64, attoseconds: &mut u64, taken: &mut usize) -> u32
+    ensures { λ r. ⌜ ReadIs x r (now (word .exit)) (now (attoseconds .exit)) (now (taken .exit)) ⌝ }
+{
+    let s = x.stamp;
+    *word = s.packed_fields;
+    *attoseconds = s.attoseconds;
+    *taken = x.taken;
+    x.number
 }

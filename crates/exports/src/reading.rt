@@ -1,4 +1,6 @@
 // What a timestamp tells.
+use crate::answers::hand_attoseconds;
+use crate::answers::hand_decimal;
 use crate::answers::hand_field;
 use crate::answers::hand_offset;
 use crate::answers::pair;
@@ -6,8 +8,8 @@ use ion::Field;
 use ion::Timestamp;
 ghost use mathlib.Core.Path.{_≡_};
 ghost use Rattle.ion.specs.Pair.{pairIs};
-ghost use Rattle.ion.specs.Reads.{offsetFieldOf};
-ghost use Rattle.exports.specs.Answers.{FieldIs, OffsetIs};
+ghost use Rattle.ion.specs.Reads.{attosecondsFieldOf, decimalFieldOf, offsetFieldOf};
+ghost use Rattle.exports.specs.Answers.{FieldIs, AttosecondsIs, DecimalIs, OffsetIs};
 ghost use Rattle.exports.specs.Reading.{fieldBy};
 
 // The field of a code.
@@ -53,5 +55,31 @@ pub extern "C" fn timestamp_offset(
         timestamp_fields::offset(pair(word, attoseconds)),
         known,
         minutes,
+    )
+}
+
+#[no_mangle]
+pub extern "C" fn timestamp_attoseconds(word: u64, attoseconds: u64, value: &mut u64) -> u32
+    ensures { λ r. ⌜ AttosecondsIs (attosecondsFieldOf (pairIs word attoseconds)) r (now (value .exit)) ⌝ }
+{
+    hand_attoseconds(
+        timestamp_fields::attoseconds(pair(word, attoseconds)),
+        value,
+    )
+}
+
+#[no_mangle]
+pub extern "C" fn timestamp_fractional_seconds(
+    word: u64,
+    attoseconds: u64,
+    coefficient: &mut u64,
+    exponent: &mut i64,
+) -> u32
+    ensures { λ r. ⌜ DecimalIs (decimalFieldOf (pairIs word attoseconds)) r (now (coefficient .exit)) (now (exponent .exit)) ⌝ }
+{
+    hand_decimal(
+        timestamp_fields::fractional_seconds(pair(word, attoseconds)),
+        coefficient,
+        exponent,
     )
 }
