@@ -1,0 +1,12 @@
+-- `exports::reading::timestamp_attoseconds` meets its contract. Assumes nothing.
+use borrow.Author.Needs.{needs}
+use Rattle.exports.proofs.reading.timestamp_attoseconds.Statement.{statement}
+use Rattle.exports.proofs.reading.timestamp_attoseconds.Tie as tie
+
+returns : tie.Need-returns
+returns c =
+    let f = c .before .before in
+    rw (f .attoseconds .ensures, f .before .pair .ensures) at (c .hand-attoseconds .ensures)
+
+pub timestamp-attoseconds-spec : {M : Type 1} → statement M
+timestamp-attoseconds-spec = tie.close (tie.spec (λ c κs. search needs) (λ c κs. search needs) (λ c κs. search needs) returns)

@@ -1,0 +1,12 @@
+-- `exports::reading::timestamp_field` meets its contract. Assumes nothing.
+use borrow.Author.Needs.{needs}
+use Rattle.exports.proofs.reading.timestamp_field.Statement.{statement}
+use Rattle.exports.proofs.reading.timestamp_field.Tie as tie
+
+returns : tie.Need-returns
+returns c =
+    let f = c .before .before in
+    rw (f .field-by .ensures, f .before .pair .ensures) at (c .hand-field .ensures)
+
+pub timestamp-field-spec : {M : Type 1} → statement M
+timestamp-field-spec = tie.close (tie.spec (λ c κs. search needs) (λ c κs. search needs) (λ c κs. search needs) returns)

@@ -1,0 +1,12 @@
+-- `exports::reading::timestamp_fractional_seconds` meets its contract. Assumes nothing.
+use borrow.Author.Needs.{needs}
+use Rattle.exports.proofs.reading.timestamp_fractional_seconds.Statement.{statement}
+use Rattle.exports.proofs.reading.timestamp_fractional_seconds.Tie as tie
+
+returns : tie.Need-returns
+returns c =
+    let o = c .before .before .before in
+    rw (o .fractional-seconds .ensures, o .before .pair .ensures) at (c .hand-decimal .ensures)
+
+pub timestamp-fractional-seconds-spec : {M : Type 1} → statement M
+timestamp-fractional-seconds-spec = tie.close (tie.spec (λ c κs. search needs) (λ c κs. search needs) (λ c κs. search needs) returns)

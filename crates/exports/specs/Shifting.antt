@@ -1,0 +1,26 @@
+-- A date and time moved by an offset, where they are such. Assumes nothing.
+use Prim.Native.Nat.{ℕ}
+use mathlib.Core.Bool.{Bool, cond, _&&_}
+use mathlib.Core.List.{List, [], _∷_}
+use mathlib.Core.Path.{_≡_}
+use lib.Dec.{leb, ltb}
+use lib.IntN.{ℤ}
+use Rattle.ion.specs.Calendar.{isDate}
+use Rattle.ion.specs.Offset.{isOffset}
+use Rattle.ion.specs.Shift.{dateOf, shifted}
+use Rattle.ion.specs.declared.DateTime.{DateTime}
+use Rattle.exports.specs.Unknown.{notMovable}
+use Rattle.exports.specs.declared.shifting.Moved.{Moved}
+
+abbrev pub isMovable : DateTime → ℤ → Bool
+isMovable t z = leb (t .year) 10000 && isDate (dateOf t) && ltb (t .hour) 24 && ltb (t .minute) 60 && isOffset z
+
+abbrev pub noTime : DateTime
+noTime = record { year = 0; month = 0; day = 0; hour = 0; minute = 0 }
+
+unfoldable pub movedBy : DateTime → ℤ → Moved
+movedBy t z = cond (isMovable t z) (record { number = 0; time = shifted t z }) (record { number = notMovable; time = noTime })
+
+pub record MovedIs (m : Moved) (n : ℕ) (l : List ℕ) : Type 0 where
+  pub number : n ≡ m .number
+  pub time : l ≡ m .time .year ∷ m .time .month ∷ m .time .day ∷ m .time .hour ∷ m .time .minute ∷ []
