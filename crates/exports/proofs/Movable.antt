@@ -7,13 +7,13 @@ use Rattle.ion.specs.Calendar.{isDate}
 use Rattle.ion.specs.Shift.{IsDateTime, dateOf}
 use Rattle.ion.specs.declared.DateTime.{DateTime}
 use Rattle.calendar.proofs.Dates.{is-date}
-use Rattle.timestamp.proofs.Decides.{Decides, le-decides, lt-decides, and-decides}
+use Rattle.timestamp.proofs.Decides.{Decides, le-decides, lt-decides, _and_}
 use Rattle.exports.specs.Shifting.{isMovable}
 
 pub movable : (t : DateTime) (z : ℤ) → isMovable t z ≡ true → (t .year ≤ 10000) × IsDateTime t × (natAbs z < 1440)
 movable t z e =
     let date : Decides (isDate (dateOf t)) (isDate (dateOf t) ≡ true) = (λ h. h, λ h. h) in
-    let time = and-decides (and-decides (and-decides (le-decides (t .year) 10000) date) (lt-decides (t .hour) 24)) (lt-decides (t .minute) 60) in
-    let h = and-decides time (lt-decides (natAbs z) 1440) .0 e in
+    let time = le-decides (t .year) 10000 and date and lt-decides (t .hour) 24 and lt-decides (t .minute) 60 in
+    let h = (time and lt-decides (natAbs z) 1440) .0 e in
     let y = h .0 .0 .0 .0 in
     (y, record { date = is-date (dateOf t) y (h .0 .0 .0 .1); hours = h .0 .0 .1; minutes = h .0 .1 }, h .1)

@@ -14,7 +14,7 @@ use Rattle.ion.specs.declared.offset.Offset.{Offset}
 use Rattle.ion.specs.declared.offset.Offset.the-variants.{Unknown, Known}
 use Rattle.calendar.proofs.Months.{picker-none}
 use Rattle.calendar.proofs.Dates.{is-date, date-is}
-use Rattle.timestamp.proofs.Decides.{Decides, le-decides, lt-decides, then-decides, and-decides}
+use Rattle.timestamp.proofs.Decides.{Decides, le-decides, lt-decides, then-decides, _and_}
 use Rattle.timestamp_binary.specs.PartsRead.{UtcInBounds, offsetFits}
 
 -- ---- the tests
@@ -59,8 +59,8 @@ All x =
 all-decides : (x : Body) → Decides (partsTest x) (All x)
 all-decides x =
     let u = x .utc in
-    let bounds = and-decides (and-decides (and-decides (and-decides (le-decides (u .hour) 23) (le-decides (u .minute) 59)) (le-decides (u .second) 59)) (le-decides (u .digits) 18)) (offset-decides (u .precision) (x .offset)) in
-    and-decides (then-decides bounds (λ p. coefficient-decides (x .coefficient) (u .digits) (p .0 .1))) (date-decides (dateIn u))
+    let bounds = le-decides (u .hour) 23 and le-decides (u .minute) 59 and le-decides (u .second) 59 and le-decides (u .digits) 18 and offset-decides (u .precision) (x .offset) in
+    then-decides bounds (λ p. coefficient-decides (x .coefficient) (u .digits) (p .0 .1)) and date-decides (dateIn u)
 
 bounds-all : (x : Body) → UtcInBounds x → All x
 bounds-all x v =
