@@ -189,6 +189,10 @@ pub struct Fields {
     pub milliseconds: u32,
     pub microseconds: u32,
     pub nanoseconds: u32,
+    pub attoseconds: u64,
+    /// The fraction as a decimal: 0 with exponent 0 where there is none.
+    pub coefficient: u64,
+    pub exponent: i64,
 }
 
 /// A date and a time of its day.
@@ -218,6 +222,8 @@ pub trait Library {
 
     fn text(&self, pair: Pair, buffer: &mut [u8]) -> Written;
     fn value(&self, pair: Pair, buffer: &mut [u8]) -> Written;
+    /// A value without its header.
+    fn body(&self, pair: Pair, buffer: &mut [u8]) -> Option<Written>;
     fn read(&self, input: &[u8]) -> Read;
 
     fn write_var_uint(&self, value: u64, buffer: &mut [u8]) -> Option<Written>;

@@ -189,8 +189,15 @@ pub fn to_utc(pair: Pair) -> Answer<Pair> {
     on_one(pair, |stamp| Ok(pair_of(&stamp.to_utc())))
 }
 
+/// The coefficient and the exponent of a fraction.
+fn decimal_parts(fraction: Decimal) -> (u64, i64) {
+    let magnitude = fraction.coefficient().magnitude().as_u128().expect("a fraction's coefficient fits");
+    (magnitude as u64, fraction.exponent())
+}
+
 pub fn fields(pair: Pair) -> Answer<Fields> {
     on_one(pair, |stamp| {
+        let (coefficient, exponent) = stamp.fractional_seconds_as_decimal().map_or((0, 0), decimal_parts);
         Ok(Fields {
             number: 0,
             year: stamp.year(),
@@ -205,6 +212,9 @@ pub fn fields(pair: Pair) -> Answer<Fields> {
             milliseconds: stamp.milliseconds(),
             microseconds: stamp.microseconds(),
             nanoseconds: stamp.nanoseconds(),
+            attoseconds: stamp.attoseconds(),
+            coefficient,
+            exponent,
         })
     })
 }

@@ -107,7 +107,7 @@ fn numbers(cases: &mut impl Cases, random: &mut Random) {
 
 fn shifts(cases: &mut impl Cases, random: &mut Random) {
     let time = fields::of_word(generate::accepted(random)).time;
-    cases.shift(time, random.between(-2878, 2878) as i32);
+    cases.shift(time, random.between(-1439, 1439) as i32);
 }
 
 /// A pair of the year 1 or 9999, or of its neighbour; most of their offsets leave the years' range.

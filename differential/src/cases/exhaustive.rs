@@ -284,7 +284,7 @@ fn number_lengths(cases: &mut impl Cases) {
             let last = calendar::month_length(year, month);
             for day in [1, 2, last - 1, last] {
                 for (hour, minute) in [(0, 0), (0, 1), (23, 58), (23, 59), (12, 0)] {
-                    for offset in [0, 1, -1, 719, -720, 1438, 1439, -1438, -1439, 2878, -2878] {
+                    for offset in [0, 1, -1, 719, -720, 1438, 1439, -1438, -1439] {
                         let time = DateTime { year, month, day, hour, minute };
                         // Beyond the years 0 to 10000 there is nothing to compare.
                         if calendar::shifted(time, offset).is_some() {

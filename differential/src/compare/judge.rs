@@ -128,6 +128,7 @@ impl<L: Library> Cases for Run<'_, L> {
         self.writer("text", case, oracle::text(pair), |library, buffer| Some(library.text(pair, buffer)));
         let value = oracle::value(pair);
         self.writer("value", case, value.clone(), |library, buffer| Some(library.value(pair, buffer)));
+        self.writer("body", case, oracle::body(pair), |library, buffer| library.body(pair, buffer));
         if let Answer::Accepted(value) = value {
             let taken = value.len();
             let answer = self.library.read(&value);

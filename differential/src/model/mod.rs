@@ -106,6 +106,9 @@ fn read_fields(pair: Pair, fields: &fields::Fields) -> Fields {
         milliseconds: (pair.attoseconds / 10u64.pow(15)) as u32,
         microseconds: (pair.attoseconds / 10u64.pow(12)) as u32,
         nanoseconds: (pair.attoseconds / 10u64.pow(9)) as u32,
+        attoseconds: pair.attoseconds,
+        coefficient: pair.attoseconds / 10u64.pow(18 - fields.digits as u32),
+        exponent: -(fields.digits as i64),
     }
 }
 
@@ -162,6 +165,10 @@ impl Library for Model {
 
     fn value(&self, pair: Pair, buffer: &mut [u8]) -> Written {
         put_or_refuse(on_one(pair, |fields| writing::value(&utc_and(fields))), buffer)
+    }
+
+    fn body(&self, pair: Pair, buffer: &mut [u8]) -> Option<Written> {
+        Some(put_or_refuse(on_one(pair, |fields| writing::body(&utc_and(fields))), buffer))
     }
 
     fn read(&self, input: &[u8]) -> Read {

@@ -27,6 +27,9 @@ enum Fault {
     /// The UTC form keeps its offset.
     KeepsTheOffset,
     ReadsNoOffset,
+    ReadsNoFraction,
+    /// The body of a value with the value's header.
+    BodyWithHeader,
     NoSign,
     /// A writer that goes past its output.
     WritesPastTheEnd,
@@ -38,7 +41,7 @@ enum Fault {
     NoDayMoved,
 }
 
-const ALL: [Fault; 20] = [
+const ALL: [Fault; 22] = [
     Fault::ReadsNothing,
     Fault::TakesMore,
     Fault::DropsTheSecond,
@@ -52,6 +55,8 @@ const ALL: [Fault; 20] = [
     Fault::ChecksNothing,
     Fault::KeepsTheOffset,
     Fault::ReadsNoOffset,
+    Fault::ReadsNoFraction,
+    Fault::BodyWithHeader,
     Fault::NoSign,
     Fault::WritesPastTheEnd,
     Fault::RoomFirst,
@@ -104,6 +109,9 @@ impl Library for Wrong {
         let mut fields = Model.fields(pair)?;
         if self.has(Fault::ReadsNoOffset) {
             fields.offset = None;
+        }
+        if self.has(Fault::ReadsNoFraction) {
+            (fields.coefficient, fields.exponent) = (0, 0);
         }
         Some(fields)
     }
@@ -166,6 +174,13 @@ impl Library for Wrong {
             }
         }
         written
+    }
+
+    fn body(&self, pair: Pair, buffer: &mut [u8]) -> Option<Written> {
+        match self.0 {
+            Fault::BodyWithHeader => Some(Model.value(pair, buffer)),
+            _ => Model.body(pair, buffer),
+        }
     }
 
     fn read(&self, input: &[u8]) -> Read {
