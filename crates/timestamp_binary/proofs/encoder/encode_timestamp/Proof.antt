@@ -1,7 +1,7 @@
 -- `encoder::encode_timestamp` meets its contract. Assumes nothing.
 use borrow.Author.Needs.{needs}
 use borrow.Author.Tests.{eq-eqb, ne-eqb}
-use mathlib.Core.Path.{_≡_, refl, sym, _∙_}
+use mathlib.Core.Path.{_≡_, refl, sym}
 use Prim.Native.Nat.{_≤_}
 use native.Mathlib.Omega.{arith}
 use lib.Dec.{lit≤}
@@ -19,11 +19,11 @@ use Rattle.timestamp_binary.proofs.encoder.encode_timestamp.Tie as tie
 
 returns : tie.Need-returns
 unfolding wroteAfter putAfter
-returns c = rw (← c .before .number-of .ensures, ne-eqb _ 0 (c .if1 .taken)) (refl, refl)
+returns c = rw (← c .before .number-of .ensures, ne-eqb (c .before .number-of .result) 0 (λ e. omega (arith, e, c .if1 .taken))) (refl, refl)
 
 -- the check's number is 0
 passed : (c : tie.Else1) → checkOf (c .before .before .before .args .s) .number ≡ 0
-passed c = sym (c .before .number-of .ensures) ∙ c .if1 .left
+passed c = omega (arith, c .before .number-of .ensures, c .if1 .left)
 
 accepted : (c : tie.Else1) → Accepted (c .before .before .before .args .s)
 accepted c = check-gives (c .before .before .before .args .s) (passed c)

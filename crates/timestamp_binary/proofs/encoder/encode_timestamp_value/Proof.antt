@@ -1,7 +1,7 @@
 -- `encoder::encode_timestamp_value` meets its contract. Assumes nothing.
 use borrow.Author.Needs.{needs}
 use borrow.Author.Tests.{eq-eqb, ne-eqb}
-use mathlib.Core.Path.{_≡_, refl, sym, _∙_}
+use mathlib.Core.Path.{_≡_, refl, sym}
 use mathlib.Core.List.{_∷_}
 use Prim.Native.Nat.{_≤_}
 use native.Mathlib.Omega.{arith}
@@ -21,11 +21,11 @@ use Rattle.timestamp_binary.proofs.encoder.encode_timestamp_value.Tie a
 
 returns : tie.Need-returns
 unfolding wroteAfter putAfter
-returns c = rw (← c .before .number-of .ensures, ne-eqb _ 0 (c .if1 .taken)) (refl, refl)
+returns c = rw (← c .before .number-of .ensures, ne-eqb (c .before .number-of .result) 0 (λ e. omega (arith, e, c .if1 .taken))) (refl, refl)
 
 -- the check's number is 0
 passed : (c : tie.Else1) → checkOf (c .before .before .before .args .s) .number ≡ 0
-passed c = sym (c .before .number-of .ensures) ∙ c .if1 .left
+passed c = omega (arith, c .before .number-of .ensures, c .if1 .left)
 
 accepted : (c : tie.Else1) → Accepted (c .before .before .before .args .s)
 accepted c = check-gives (c .before .before .before .args .s) (passed c)
@@ -58,7 +58,7 @@ returns-2 c =
     let i = p .before .before .before .before in
     let k = i .before .before in
     let e = k .before .before in
-    rw (eq-eqb _ 0 (passed e), ← stored-short (e .before .before .before .args .s) (k .put-body .last .0) (k .put-body .result) (front k) (inside k) (i .if2 .taken))
+    rw (eq-eqb _ 0 (passed e), ← stored-short (e .before .before .before .args .s) (k .put-body .last .0) (k .put-body .result) (front k) (inside k) (omega (arith, i .if2 .taken)))
     (p .put-bytes .ensures)
 
 -- ---- a longer one
@@ -82,7 +82,7 @@ returns-3 c =
     let i = p .before .before .before in
     let k = i .before .before in
     let e = k .before .before in
-    rw (eq-eqb _ 0 (passed e), ← stored-long (e .before .before .before .args .s) (k .put-body .last .0) (k .put-body .result) (front k) (inside k) (i .if2 .left) (omega (arith, most k)))
+    rw (eq-eqb _ 0 (passed e), ← stored-long (e .before .before .before .args .s) (k .put-body .last .0) (k .put-body .result) (front k) (inside k) (omega (arith, i .if2 .left)) (omega (arith, most k)))
     (p .put-bytes2 .ensures)
 
 pub encode-timestamp-value-spec : {M : Type 1} → statement M

@@ -21,15 +21,23 @@ byte : (c : tie.Else1) → let s = c .before .before .args .s .now in drop 1 s �
 byte c = drop-cons (c .before .before .args .s .now) 1 0 (omega (arith, c .if1 .left))
 
 returns-2 : tie.Need-returns-2
-returns-2 c = c .refused2 .ensures ∙ sym (ap readLength (byte (c .before .before .before)) ∙ length-low _ _ (c .before .if2 .taken))
+returns-2 c =
+    let e = c .before .before .before in
+    let s = e .before .before .args .s .now in
+    c .refused2 .ensures ∙ sym (ap readLength (byte e) ∙ length-low (getD s 1 0) (drop 2 s) (omega (arith, c .before .if2 .taken)))
 
 returns-3 : tie.Need-returns-3
-returns-3 c = c .refused3 .ensures ∙ sym (ap readLength (byte (c .before .before .before .before)) ∙ length-high _ _ (c .before .if3 .taken))
+returns-3 c =
+    let e = c .before .before .before .before in
+    let s = e .before .before .args .s .now in
+    c .refused3 .ensures ∙ sym (ap readLength (byte e) ∙ length-high (getD s 1 0) (drop 2 s) (omega (arith, c .before .if3 .taken)))
 
 returns-4 : tie.Need-returns-4
 returns-4 c =
-    let e = c .before in
-    c .read-after .ensures ∙ sym (ap readLength (byte (e .before .before .before)) ∙ length-is _ _ (e .before .if2 .left) (e .if3 .left))
+    let t = c .before in
+    let e = t .before .before .before in
+    let s = e .before .before .args .s .now in
+    c .read-after .ensures ∙ sym (ap readLength (byte e) ∙ length-is (getD s 1 0) (drop 2 s) (omega (arith, t .before .if2 .left)) (omega (arith, t .if3 .left)))
 
 pub read-length-spec : {M : Type 1} → statement M
 read-length-spec =

@@ -3,7 +3,8 @@ use borrow.Author.Needs.{needs}
 use borrow.Author.Tests.{lt-ltb, le-ltb, not-true, not-false}
 use mathlib.Core.Path.{_≡_, sym, ap, ap₂, subst, _∙_}
 use mathlib.Core.Bool.{Bool, true, _&&_}
-use Prim.Native.Nat.{ℕ, _^_, _≤_, _<_, min}
+use Prim.Native.Nat.{_^_, min}
+use native.Mathlib.Omega.{arith}
 use lib.Dec.{leb, ltb}
 use Rattle.ion.specs.Calendar.{isDate}
 use Rattle.ion.specs.Accepted.{dateIn}
@@ -41,7 +42,7 @@ returns-2 c =
     let x = e .before .before .before .before .before .before .before .args .x in
     let k = 10 ^ min (x .utc .digits) 18 in
     decided
-    (ap₂ (λ (b d : Bool). b && d && isDate (dateIn (x .utc))) (passed e) (le-ltb (x .coefficient) k (subst (λ (n : ℕ). n ≤ x .coefficient) (p .power .ensures) (c .if2 .taken))))
+    (ap₂ (λ (b d : Bool). b && d && isDate (dateIn (x .utc))) (passed e) (le-ltb (x .coefficient) k (omega (arith, p .power .ensures, c .if2 .taken))))
 
 returns-3 : tie.Need-returns-3
 returns-3 c =
@@ -51,7 +52,7 @@ returns-3 c =
     let x = e .before .before .before .before .before .before .before .args .x in
     let k = 10 ^ min (x .utc .digits) 18 in
     decided
-    (ap₂ (λ (b d : Bool). b && d && isDate (dateIn (x .utc))) (passed e) (lt-ltb (x .coefficient) k (subst (λ (n : ℕ). x .coefficient < n) (p .power .ensures) (i .if2 .left)))
+    (ap₂ (λ (b d : Bool). b && d && isDate (dateIn (x .utc))) (passed e) (lt-ltb (x .coefficient) k (omega (arith, p .power .ensures, i .if2 .left)))
     ∙ sym (c .is-date .ensures))
 
 pub utc-in-bounds-spec : {M : Type 1} → statement M
