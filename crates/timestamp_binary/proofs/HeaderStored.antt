@@ -42,7 +42,7 @@ two-stored b t e x y h =
 -- ---- the header in those two bytes
 
 module _ (s : Timestamp) (b : List ℕ) (e : ℕ) (front : take e b ≡ 0 ∷ 0 ∷ bodyOf s) (within : e ≤ length b) where
-  pub body-size : e - 2 ≡ length (bodyOf s)
+  body-size : e - 2 ≡ length (bodyOf s)
   body-size = omega (arith, length-take-le e b within, ap length front)
 
   pub stored-short : e - 2 ≤ 13 → take (e - 1) (drop 1 (set b 1 (0x60 + (e - 2)))) ≡ valueOf s
