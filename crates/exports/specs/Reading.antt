@@ -5,7 +5,7 @@ use lib.ListN.{getD}
 use Rattle.ion.specs.Reads.{yearOf, monthOf, dayOf, hourOf, minuteOf, secondOf, precisionFieldOf, digitsFieldOf, nanosecondsOf, microsecondsOf, millisecondsOf}
 use Rattle.ion.specs.declared.Timestamp.{Timestamp}
 use Rattle.ion.specs.declared.Field.{Field}
-use Rattle.exports.specs.Unknown.{unknownCode}
+use Rattle.field_sets.specs.FieldSets.{unknownCode}
 
 -- 0 year, 1 month, 2 day, 3 hour, 4 minute, 5 second, 6 precision, 7 number of fraction digits, 8 milliseconds, 9 microseconds,
 -- 10 nanoseconds

@@ -9,8 +9,11 @@ use Rattle.ion.specs.Calendar.{isDate}
 use Rattle.ion.specs.Offset.{isOffset}
 use Rattle.ion.specs.Shift.{dateOf, shifted}
 use Rattle.ion.specs.declared.DateTime.{DateTime}
-use Rattle.exports.specs.Unknown.{notMovable}
 use Rattle.exports.specs.declared.shifting.Moved.{Moved}
+
+-- the number of a shift of no date and time of the years 0 to 10000, or by minutes of no offset; above all of document 01's
+abbrev pub notMovable : ℕ
+notMovable = 102
 
 abbrev pub isMovable : DateTime → ℤ → Bool
 isMovable t z = leb (t .year) 10000 && isDate (dateOf t) && ltb (t .hour) 24 && ltb (t .minute) 60 && isOffset z

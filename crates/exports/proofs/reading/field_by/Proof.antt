@@ -4,7 +4,7 @@ use Prim.Native.Nat.{ℕ, suc, _≤_}
 use native.Mathlib.Omega.{arith}
 use lib.ListN.{List·getD-eq-default}
 use borrow.Author.Needs.{needs}
-use Rattle.exports.specs.Unknown.{unknownCode}
+use Rattle.field_sets.specs.FieldSets.{unknownCode}
 use Rattle.exports.specs.Reading.{fieldsTold, fieldBy}
 use Rattle.exports.proofs.reading.field_by.Statement.{statement}
 use Rattle.exports.proofs.reading.field_by.Tie as tie

@@ -1,0 +1,2 @@
+-- What the contracts of field sets cite beside the definitions of `ion`.
+pub mod FieldSets
