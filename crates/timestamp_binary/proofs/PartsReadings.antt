@@ -17,6 +17,7 @@ use Rattle.ion.specs.ReadValue.{refusedReading, acceptedReading, same, isBodyOf
 use Rattle.ion.specs.declared.Fields.{Fields}
 use Rattle.ion.specs.declared.Body.{Body}
 use Rattle.ion.specs.declared.Read.{Read}
+use Rattle.ion.proofs.Same.{same-is}
 use Rattle.packed.proofs.Words.{unpack-pack}
 use Rattle.timestamp.proofs.Valid.{valid-in-range, valid-accepted}
 use Rattle.timestamp.proofs.Accepts.{check-gives}
@@ -28,7 +29,7 @@ use Rattle.timestamp_binary.specs.PartsRead.{UtcInBounds, PartsRead}
 use Rattle.timestamp_binary.proofs.DecodeIs.{Bytes, body-is}
 use Rattle.timestamp_binary.proofs.UtcBody.{acceptable}
 use Rattle.timestamp_binary.proofs.LocalFields.{attosecondsFrom, local-valid, body-again}
-use Rattle.timestamp_binary.proofs.Values.{same-is, decode-value, body-read}
+use Rattle.timestamp_binary.proofs.Values.{decode-value, body-read}
 
 -- ---- acceptable parts
 

@@ -18,9 +18,10 @@ use Rattle.ion.specs.ReadValue.{refusedReading, acceptedReading, same, isBodyOf
 use Rattle.ion.specs.declared.Body.{Body}
 use Rattle.ion.specs.declared.Timestamp.{Timestamp}
 use Rattle.ion.specs.declared.Read.{Read}
+use Rattle.ion.proofs.Same.{same-is}
 use Rattle.timestamp.proofs.Accepts.{check-gives}
 use Rattle.timestamp_binary.proofs.Lengths.{header-short, header-long}
-use Rattle.timestamp_binary.proofs.Values.{same-is, value-back}
+use Rattle.timestamp_binary.proofs.Values.{value-back}
 
 -- ---- a body
 

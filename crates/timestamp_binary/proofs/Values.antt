@@ -1,14 +1,13 @@
 -- The value of an accepted timestamp is read back, whatever follows it, and whatever is read begins with such a value.
 -- Assumes nothing.
 use mathlib.Core.Path.{_≡_, refl, sym, ap, ap₂, _∙_}
-use mathlib.Core.Bool.{true, false, and-eq-true-iff, false≢true}
 use mathlib.Core.List.{List, [], _∷_, _++_}
 use Prim.Native.Nat.{ℕ, zero, suc, _+_, _-_, _*_, _/_, _≤_, _<_}
 use native.Mathlib.Nat.{div-le-self}
 use native.Mathlib.Omega.{arith}
 use native.Mathlib.Decide.{decLe}
-use borrow.Author.Tests.{le-ltb, eq-eqb, ne-eqb, eqb-true}
-use lib.Dec.{eqb, lit<}
+use borrow.Author.Tests.{le-ltb, ne-eqb}
+use lib.Dec.{lit<}
 use lib.ListN.{length, take, getD, length-append}
 use lib.Seq.{take-at}
 use Rattle.ion.specs.Calendar.{isLeap}
@@ -19,10 +18,11 @@ use Rattle.ion.specs.Check.{checkOf}
 use Rattle.ion.specs.Accepted.{Accepted}
 use Rattle.ion.specs.Value.{offsetBytes, varuints, fieldList, fieldCount, fractionBytes, bodyFrom, bodyOf, valueOf}
 use Rattle.ion.specs.Decode.{found, decodeBody, pairFrom}
-use Rattle.ion.specs.ReadValue.{acceptedReading, same, isBodyOf, takenAs, readBody, readAfter, readLength, readOf}
+use Rattle.ion.specs.ReadValue.{acceptedReading, isBodyOf, takenAs, readBody, readAfter, readLength, readOf}
 use Rattle.ion.specs.declared.Fields.{Fields}
 use Rattle.ion.specs.declared.Built.{Built}
 use Rattle.ion.specs.declared.Timestamp.{Timestamp}
+use Rattle.ion.proofs.Same.{same-refl}
 use Rattle.calendar.proofs.Months.{month-to-twelve, month-most}
 use Rattle.timestamp.proofs.Accepts.{check-accepts}
 use Rattle.timestamp.proofs.Valid.{accepted-word}
@@ -30,22 +30,6 @@ use Rattle.timestamp_binary.specs.BodyFor.{bodyFor}
 use Rattle.timestamp_binary.proofs.DecodeBack.{body-back}
 use Rattle.timestamp_binary.proofs.UtcBody.{encodable, acceptable, local-fields, attoseconds-back, utc-digits}
 use Rattle.timestamp_binary.proofs.Lengths.{offset-length, fields-length, fraction-length, header-short, header-long}
-
--- ---- the test of two lists
-
-pub same-refl : (s : List ℕ) → same s s ≡ true
-unfolding same
-same-refl [] = refl
-same-refl (a ∷ s) = rw (eq-eqb a a refl, same-refl s)
-
-pub same-is : (s t : List ℕ) → same s t ≡ true → s ≡ t
-unfolding same
-same-is [] [] e = refl
-same-is [] (b ∷ t) e = absurd (false≢true e)
-same-is (a ∷ s) [] e = absurd (false≢true e)
-same-is (a ∷ s) (b ∷ t) e =
-    let p = and-eq-true-iff (eqb a b) (same s t) .0 e in
-    ap₂ _∷_ (eqb-true a b (p .0)) (same-is s t (p .1))
 
 -- ---- the body of an accepted timestamp
 

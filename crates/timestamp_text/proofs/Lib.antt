@@ -5,5 +5,4 @@ pub mod Numbers
 pub mod Offsets
 pub mod ReadBack
 pub mod Rooms
-pub mod Same
 pub mod Signs

@@ -18,9 +18,9 @@ use Rattle.ion.specs.ReadValue.{same}
 use Rattle.ion.specs.ReadText.{digitsValue, digitRun, offset, knownOffset, signedClock, readClock, readOffset}
 use Rattle.ion.specs.declared.offset.Offset.{Offset}
 use Rattle.ion.specs.declared.offset.Offset.the-variants.{Unknown, Known}
+use Rattle.ion.proofs.Same.{same-not}
 use Rattle.text.proofs.Digits.{padded-digits}
 use Rattle.timestamp_text.proofs.Numbers.{value-digits}
-use Rattle.timestamp_text.proofs.Same.{same-not}
 
 clock-digits : (n : ℕ) → n < 1440 → clockText n ≡ lastDigits 2 (n / 60) ++ (code ":" ∷ lastDigits 2 (n % 60))
 unfolding clockText marked
