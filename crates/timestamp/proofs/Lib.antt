@@ -3,7 +3,6 @@ pub mod Bounds
 pub mod Routes
 pub mod Rebuilt
 pub mod Staging
-pub mod Room
 pub mod Times
 pub mod Valid
 pub mod Given

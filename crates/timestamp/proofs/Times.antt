@@ -16,8 +16,8 @@ use Rattle.ion.specs.declared.BuilderOffset.the-variants.{Unknown, FromLocalFie
 use Rattle.ion.specs.declared.offset.Offset.{Offset}
 use Rattle.calendar.proofs.Dates.{is-date, month-of, day-of}
 use Rattle.calendar.proofs.Shifts.{shifted-is}
+use Rattle.calendar.proofs.Room.{moved-room}
 use Rattle.timestamp.proofs.Checks.{AllPass}
-use Rattle.timestamp.proofs.Room.{moved-room}
 use Rattle.timestamp.proofs.Bounds.{precision-le, raw-lt, year-is}
 
 -- fields in bounds with such a calendar day are a date and a time

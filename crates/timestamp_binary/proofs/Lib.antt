@@ -1,6 +1,5 @@
 pub mod DecodeBack
 pub mod DecodeIs
-pub mod UtcTime
 pub mod UtcBody
 pub mod LocalFields
 pub mod Lengths

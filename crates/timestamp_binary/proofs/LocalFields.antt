@@ -18,12 +18,12 @@ use Rattle.ion.specs.declared.offset.Offset.{Offset}
 use Rattle.ion.specs.declared.offset.Offset.the-variants.{Unknown, Known}
 use Rattle.ion.proofs.Offsets.{raw-and-back, raw-below}
 use Rattle.calendar.proofs.Shifts.{shifted-is, shift-back}
+use Rattle.calendar.proofs.Room.{moved-room}
 use Rattle.fraction.proofs.Caps.{scaled-low}
 use Rattle.fraction.proofs.Scales.{scale-pos}
 use Rattle.timestamp_binary.specs.Encodable.{Encodable}
 use Rattle.timestamp_binary.specs.Acceptable.{Acceptable}
 use Rattle.timestamp_binary.specs.BodyFor.{bodyFor}
-use Rattle.timestamp_binary.proofs.UtcTime.{shift-room-back}
 
 raw-most : (o : Offset) → WithinDay o → rawOf o .0 < 2880
 raw-most Unknown w = omega arith
@@ -45,7 +45,7 @@ module _ (x : Body) (p : Encodable x) (q : Acceptable x) where
   room m e =
       let w = p .within-day in
       let y = q .from-year in
-      shift-room-back (timeIn (x .utc)) (m .0) (rw e at w) (rw e at y)
+      moved-room (timeIn (x .utc)) (m .0) (q .time) (rw e at w) (rw e at y)
 
   local-time : (o : Offset) → x .offset ≡ o → IsDateTime (timeIn (localBy o (x .utc)))
   local-time Unknown e = q .time

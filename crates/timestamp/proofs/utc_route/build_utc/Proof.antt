@@ -10,7 +10,7 @@ use Rattle.ion.specs.Build.{isYear, isDay, givenTime, movedTime, packedOf, pair
 use Rattle.ion.specs.declared.DateTime.{DateTime}
 use Rattle.ion.specs.declared.offset.Offset.the-variants.{Known}
 use Rattle.calendar.proofs.Shifts.{shifted-is}
-use Rattle.timestamp.proofs.Room.{moved-room}
+use Rattle.calendar.proofs.Room.{moved-room}
 use Rattle.timestamp.proofs.Bounds.{year-is}
 use Rattle.timestamp.proofs.Times.{time-is, time-in-range}
 use Rattle.timestamp.proofs.utc_route.build_utc.Statement.{statement}
