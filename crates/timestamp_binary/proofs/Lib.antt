@@ -5,7 +5,6 @@ pub mod LocalFields
 pub mod Lengths
 pub mod Values
 pub mod Readings
-pub mod Minus
 pub mod FieldRuns
 pub mod FractionRuns
 pub mod BodyParts

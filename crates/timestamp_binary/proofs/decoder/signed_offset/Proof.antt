@@ -8,10 +8,10 @@ use native.Mathlib.Omega.{arith}
 use lib.IntN.{ℤ, pos, negℤ, _-ℤ_, +ℤ-idl}
 use mir.Syntax.{w32}
 use mir.Facts.{toZ-ofZ, toZ-pos}
+use Rattle.integers.proofs.Parts.{minus-fits}
 use Rattle.ion.specs.Offset.{minutesIs}
 use Rattle.ion.specs.Decode.{signedOffset}
 use Rattle.ion.specs.declared.offset.Offset.the-variants.{Unknown, Known}
-use Rattle.timestamp_binary.proofs.Minus.{minus-fits}
 use Rattle.timestamp_binary.proofs.decoder.signed_offset.Statement.{statement}
 use Rattle.timestamp_binary.proofs.decoder.signed_offset.Tie as tie
 

@@ -7,6 +7,7 @@ use lib.IntN.{pos, _-ℤ_}
 use lib.ListN.{length}
 use mir.Syntax.{w64}
 use mir.Facts.{toZ-ofZ, toZ-pos}
+use Rattle.integers.proofs.Parts.{minus-fits}
 use Rattle.ion.specs.Fraction.{scale}
 use Rattle.ion.specs.Output.{Run}
 use Rattle.ion.specs.Decimal.{decimalBytes}
@@ -14,7 +15,6 @@ use Rattle.ion.specs.Value.{fractionBytes}
 use Rattle.fraction.proofs.Scales.{scale-pos}
 use Rattle.output.proofs.Runs.{run-none, run-is}
 use Rattle.timestamp_binary.proofs.DecodeBack.{no-fraction}
-use Rattle.timestamp_binary.proofs.Minus.{minus-fits}
 use Rattle.timestamp_binary.proofs.FractionRuns.{fraction-some}
 use Rattle.timestamp_binary.proofs.encoder.put_fraction.Statement.{statement}
 use Rattle.timestamp_binary.proofs.encoder.put_fraction.Tie as tie

@@ -5,10 +5,9 @@ use Prim.Native.Nat.{ℕ, _/_, _^_, _<_}
 use native.Mathlib.Omega.{arith}
 use lib.IntN.{pos, negℤ, _-ℤ_, +ℤ-idl}
 use mir.Syntax.{w64}
-use mir.Val.{SFits}
 use mir.Facts.{toZ-ofZ, toZ-pos}
 use borrow.Author.Needs.{needs}
-use Rattle.integers.proofs.Parts.{apart, abs-fits, natAbs-parts, sub-parts}
+use Rattle.integers.proofs.Parts.{minus-fits}
 use Rattle.ion.specs.Word.{fieldsOf}
 use Rattle.ion.specs.Pair.{wordIn}
 use Rattle.ion.specs.Fraction.{scale}
@@ -31,18 +30,16 @@ returns c =
 div : tie.Need-div-t8
 div c = rw (c .scale .ensures) (scale-pos (c .before .digits .result))
 
-small : (c : tie.After-scale) → c .before .digits .result < 2 ^ 32
-small c = search needs
-
--- minus a number of 32 bits
-minus-fits : (n : ℕ) → n < 2 ^ 32 → SFits w64 (pos 0 -ℤ pos n)
-minus-fits n h = abs-fits w64 (pos 0 -ℤ pos n) (omega (arith, natAbs-parts (pos 0 -ℤ pos n), sub-parts (pos 0) (pos n), apart (pos 0 -ℤ pos n)))
+small : (c : tie.After-scale) → c .before .digits .result < 2 ^ 63
+small c =
+    let k : c .before .digits .result < 2 ^ 32 = search needs in
+    omega arith
 
 negated : tie.Need-sub-t10
 negated c =
     let n = c .before .digits .result in
-    let k : n < 2 ^ 63 = omega (arith, small c) in
-    simp (toZ-pos w64) (minus-fits n (small c))
+    let k = small c in
+    simp (toZ-pos w64) (minus-fits w64 n k)
 
 returns-2 : tie.Need-returns-2
 unfolding decimalFieldOf fieldsOf
@@ -51,8 +48,8 @@ returns-2 c =
     let s = e1 .before .before .args .s in
     let e : checkOf s .number ≡ 0 = sym (e1 .before .number-of .ensures) ∙ e1 .if1 .left in
     let n = c .before .digits .result in
-    let k : n < 2 ^ 63 = omega (arith, small c) in
-    let m = minus-fits n (small c) in
+    let k = small c in
+    let m = minus-fits w64 n k in
     let d = decimalIn (fieldsOf (wordIn s)) (s .attoseconds) in
     let g = c .before .digits .ensures in
     let q : s .attoseconds / c .scale .result ≡ d .coefficient = ap (λ (j : ℕ). s .attoseconds / j) (c .scale .ensures ∙ ap scale g) in
