@@ -7,7 +7,7 @@ use native.Mathlib.Nat.{add-zero}
 use native.Mathlib.Numerals.{add-one}
 use native.Mathlib.Omega.{arith}
 use native.Mathlib.Decide.{decLe}
-use borrow.Author.Tests.{le-leb, lt-leb}
+use borrow.Author.Tests.{le-leb, lt-leb, ne-eqb}
 use lib.ListN.{length, take, drop, set, getD, length-append, length-drop, take-append-drop}
 use lib.Seq.{take-at, drop-at, drop-drop, length-take-le, paste, paste-suc, take-length}
 use Rattle.places.specs.Places.{placesOn, places}
@@ -59,6 +59,29 @@ module _ (d : List ℕ) (at : ℕ) (s : List ℕ) {w : Written} (answered : w �
 
   pub written : {e : List ℕ} → w .number ≡ 0 → e ≡ over d at s → (w ≡ wrote d at s) × (e ≡ put d at s)
   written z p = (answered, p ∙ sym (put-fits d at s (has-room z)))
+
+-- a writer that first makes a check, which gave the number n
+module _ (n : ℕ) (d : List ℕ) (at : ℕ) (s : List ℕ) where
+  pub wrote-passed : n ≡ 0 → wroteAfter n d at s ≡ wrote d at s
+  unfolding wroteAfter
+  wrote-passed e = rw e
+
+  pub put-passed : n ≡ 0 → putAfter n d at s ≡ put d at s
+  unfolding putAfter
+  put-passed e = rw e
+
+  pub passed-writing : {w : Written} {e : List ℕ} → n ≡ 0 → (w ≡ wrote d at s) × (e ≡ put d at s) → (w ≡ wroteAfter n d at s) × (e ≡ putAfter n d at s)
+  passed-writing z p = (p .0 ∙ sym (wrote-passed z), p .1 ∙ sym (put-passed z))
+
+  pub stopped-writing : (n ≡ 0 → ⊥) → (refusedWriting n ≡ wroteAfter n d at s) × (d ≡ putAfter n d at s)
+  unfolding wroteAfter putAfter
+  stopped-writing z = rw (ne-eqb n 0 z) (refl, refl)
+
+-- the bytes that were put are those at the position
+pub put-there : (d : List ℕ) (at : ℕ) (s : List ℕ) → at + length s ≤ length d → take (length s) (drop at (over d at s)) ≡ s
+put-there d at s h =
+    let r = drop (at + length s) d in
+    ap (take (length s)) (drop-at (take at d) (s ++ r) at (length-take-le at d (omega arith))) ∙ take-at s r (length s) refl
 
 -- what stands in front of the end of what was put, and behind it
 pub take-over : (d : List ℕ) (at : ℕ) (s : List ℕ) (n : ℕ) → length s ≡ n → at ≤ length d → take (at + n) (over d at s) ≡ take at d ++ s

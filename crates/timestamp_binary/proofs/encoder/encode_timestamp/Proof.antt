@@ -1,16 +1,15 @@
 -- `encoder::encode_timestamp` meets its contract. Assumes nothing.
 use borrow.Author.Needs.{needs}
-use borrow.Author.Tests.{eq-eqb, ne-eqb}
-use mathlib.Core.Path.{_≡_, refl, sym}
+use mathlib.Core.Path.{_≡_, sym}
 use Prim.Native.Nat.{_≤_}
 use native.Mathlib.Omega.{arith}
 use lib.Dec.{lit≤}
 use lib.ListN.{length, take}
 use lib.Seq.{length-take-le}
-use Rattle.ion.specs.Output.{putAfter, wroteAfter}
 use Rattle.ion.specs.Check.{checkOf}
 use Rattle.ion.specs.Accepted.{Accepted}
 use Rattle.ion.specs.Value.{bodyOf}
+use Rattle.output.proofs.Stores.{passed-writing, stopped-writing}
 use Rattle.output.proofs.Runs.{run-front}
 use Rattle.timestamp.proofs.Accepts.{check-gives}
 use Rattle.timestamp_binary.proofs.Values.{body-length}
@@ -18,8 +17,7 @@ use Rattle.timestamp_binary.proofs.encoder.encode_timestamp.Statement.{
 use Rattle.timestamp_binary.proofs.encoder.encode_timestamp.Tie as tie
 
 returns : tie.Need-returns
-unfolding wroteAfter putAfter
-returns c = rw (← c .before .number-of .ensures, ne-eqb (c .before .number-of .result) 0 (λ e. omega (arith, e, c .if1 .taken))) (refl, refl)
+returns c = rw (← c .before .number-of .ensures) (stopped-writing _ _ _ _ (c .if1 .taken))
 
 -- the check's number is 0
 passed : (c : tie.Else1) → checkOf (c .before .before .before .args .s) .number ≡ 0
@@ -47,11 +45,10 @@ slice-aggregate-put-bytes : tie.Need-slice-aggregate-put-bytes
 slice-aggregate-put-bytes c = sym (length-take-le _ _ (inside (c .before .before .before)))
 
 returns-2 : tie.Need-returns-2
-unfolding wroteAfter putAfter
 returns-2 c =
     let p = c .before .before in
     let k = p .before .before .before .before in
-    rw (eq-eqb _ 0 (passed (k .before .before)), ← front k) (p .put-bytes .ensures)
+    passed-writing _ _ _ _ (passed (k .before .before)) (rw (← front k) (p .put-bytes .ensures))
 
 pub encode-timestamp-spec : {M : Type 1} → statement M
 encode-timestamp-spec =

@@ -1,17 +1,16 @@
 -- `encoder::encode_timestamp_value` meets its contract. Assumes nothing.
 use borrow.Author.Needs.{needs}
-use borrow.Author.Tests.{eq-eqb, ne-eqb}
-use mathlib.Core.Path.{_≡_, refl, sym}
+use mathlib.Core.Path.{_≡_, sym}
 use mathlib.Core.List.{_∷_}
 use Prim.Native.Nat.{_≤_}
 use native.Mathlib.Omega.{arith}
 use lib.Dec.{lit≤}
 use lib.ListN.{length, take, length-set}
 use lib.Seq.{length-take-le}
-use Rattle.ion.specs.Output.{putAfter, wroteAfter}
 use Rattle.ion.specs.Check.{checkOf}
 use Rattle.ion.specs.Accepted.{Accepted}
 use Rattle.ion.specs.Value.{bodyOf}
+use Rattle.output.proofs.Stores.{passed-writing, stopped-writing}
 use Rattle.output.proofs.Runs.{run-front}
 use Rattle.timestamp.proofs.Accepts.{check-gives}
 use Rattle.timestamp_binary.proofs.Values.{body-length}
@@ -20,8 +19,7 @@ use Rattle.timestamp_binary.proofs.encoder.encode_timestamp_value.State
 use Rattle.timestamp_binary.proofs.encoder.encode_timestamp_value.Tie as tie
 
 returns : tie.Need-returns
-unfolding wroteAfter putAfter
-returns c = rw (← c .before .number-of .ensures, ne-eqb (c .before .number-of .result) 0 (λ e. omega (arith, e, c .if1 .taken))) (refl, refl)
+returns c = rw (← c .before .number-of .ensures) (stopped-writing _ _ _ _ (c .if1 .taken))
 
 -- the check's number is 0
 passed : (c : tie.Else1) → checkOf (c .before .before .before .args .s) .number ≡ 0
@@ -52,14 +50,14 @@ part-put-bytes-end : tie.Need-part-put-bytes-end
 part-put-bytes-end c = simp length-set (inside (c .before .before .before .before))
 
 returns-2 : tie.Need-returns-2
-unfolding wroteAfter putAfter
 returns-2 c =
     let p = c .before .before in
     let i = p .before .before .before .before in
     let k = i .before .before in
     let e = k .before .before in
-    rw (eq-eqb _ 0 (passed e), ← stored-short (e .before .before .before .args .s) (k .put-body .last .0) (k .put-body .result) (front k) (inside k) (omega (arith, i .if2 .taken)))
-    (p .put-bytes .ensures)
+    passed-writing _ _ _ _ (passed e)
+    (rw (← stored-short (e .before .before .before .args .s) (k .put-body .last .0) (k .put-body .result) (front k) (inside k) (omega (arith, i .if2 .taken)))
+    (p .put-bytes .ensures))
 
 -- ---- a longer one
 
@@ -76,14 +74,14 @@ slice-aggregate-put-bytes : tie.Need-slice-aggregate-put-bytes
 slice-aggregate-put-bytes c = sym (length-take-le _ _ (simp length-set (inside (c .before .before .before .before))))
 
 returns-3 : tie.Need-returns-3
-unfolding wroteAfter putAfter
 returns-3 c =
     let p = c .before .before in
     let i = p .before .before .before in
     let k = i .before .before in
     let e = k .before .before in
-    rw (eq-eqb _ 0 (passed e), ← stored-long (e .before .before .before .args .s) (k .put-body .last .0) (k .put-body .result) (front k) (inside k) (omega (arith, i .if2 .left)) (omega (arith, most k)))
-    (p .put-bytes2 .ensures)
+    passed-writing _ _ _ _ (passed e)
+    (rw (← stored-long (e .before .before .before .args .s) (k .put-body .last .0) (k .put-body .result) (front k) (inside k) (omega (arith, i .if2 .left)) (omega (arith, most k)))
+    (p .put-bytes2 .ensures))
 
 pub encode-timestamp-value-spec : {M : Type 1} → statement M
 encode-timestamp-value-spec =

@@ -1,14 +1,13 @@
 -- `formatting::format` meets its contract. Assumes nothing.
 use borrow.Author.Needs.{needs}
-use borrow.Author.Tests.{eq-eqb, ne-eqb}
-use mathlib.Core.Path.{_≡_, refl, sym, ap, _∙_}
+use mathlib.Core.Path.{_≡_, sym, ap, _∙_}
 use lib.ListN.{length}
-use Rattle.ion.specs.Output.{roomFor, wrote, putAfter, wroteAfter}
+use Rattle.ion.specs.Output.{roomFor, wrote}
 use Rattle.ion.specs.Check.{checkOf}
 use Rattle.ion.specs.Text.{textOf}
 use Rattle.ion.specs.Accepted.{Accepted}
 use Rattle.ion.specs.declared.Fields.{Fields}
-use Rattle.output.proofs.Stores.{has-room, refused-writing, written}
+use Rattle.output.proofs.Stores.{has-room, refused-writing, written, passed-writing, stopped-writing}
 use Rattle.timestamp.proofs.Accepts.{check-gives}
 use Rattle.timestamp_text.specs.Length.{textLength}
 use Rattle.timestamp_text.proofs.Lengths.{length-text}
@@ -16,8 +15,7 @@ use Rattle.timestamp_text.proofs.formatting.format.Statement.{statement
 use Rattle.timestamp_text.proofs.formatting.format.Tie as tie
 
 returns : tie.Need-returns
-unfolding wroteAfter putAfter
-returns c = rw (← c .before .number-of .ensures, ne-eqb _ 0 (c .if1 .taken)) (refl, refl)
+returns c = rw (← c .before .number-of .ensures) (stopped-writing _ _ _ _ (c .if1 .taken))
 
 -- the check's number is 0
 passed : (c : tie.Else1) → checkOf (c .before .before .before .args .s) .number ≡ 0
@@ -38,12 +36,11 @@ answered c =
     ∙ sym (length-text _ (a .s .attoseconds) (accepted (u .before) .fields)))
 
 returns-2 : tie.Need-returns-2
-unfolding wroteAfter putAfter
 returns-2 c =
     let r = c .before .before in
     let e = r .before .before .before in
     let a = e .before .before .before .args in
-    rw (eq-eqb _ 0 (passed e)) (refused-writing (a .buf .now) (a .at) (textOf (a .s)) (answered r) (c .if2 .taken))
+    passed-writing _ _ _ _ (passed e) (refused-writing (a .buf .now) (a .at) (textOf (a .s)) (answered r) (c .if2 .taken))
 
 text-into-requires : tie.Need-text-into-requires
 unfolding textOf
@@ -55,7 +52,7 @@ text-into-requires c κs =
     rw (u .unpack .ensures) (has-room (a .buf .now) (a .at) (textOf (a .s)) (answered r) (c .before .if2 .left), accepted e .fields)
 
 returns-3 : tie.Need-returns-3
-unfolding wroteAfter putAfter textOf
+unfolding textOf
 returns-3 c =
     let t = c .before .before in
     let r = t .before .before .before .before in
@@ -63,7 +60,7 @@ returns-3 c =
     let e = u .before in
     let a = e .before .before .before .args in
     let b = t .text-into .ensures .bytes in
-    rw (eq-eqb _ 0 (passed e)) (written (a .buf .now) (a .at) (textOf (a .s)) (answered r) (t .before .before .if2 .left) (rw (u .unpack .ensures) at b))
+    passed-writing _ _ _ _ (passed e) (written (a .buf .now) (a .at) (textOf (a .s)) (answered r) (t .before .before .if2 .left) (rw (u .unpack .ensures) at b))
 
 pub format-spec : {M : Type 1} → statement M
 format-spec =
