@@ -26,3 +26,20 @@ run-is {d} {e} {a} {c} {s} {t} g q = record { bytes = g .bytes ∙ ap (over d a)
 -- what stands before the end
 pub run-front : {d e : List ℕ} {a c : ℕ} {s : List ℕ} → Run d a s e c → a ≤ length d → take c e ≡ take a d ++ s
 run-front {d} {e} {a} {c} {s} g h = ap₂ take (g .next) (g .bytes) ∙ take-over d a s (length s) refl h
+
+-- ---- two runs one after the other, where there is room for both together
+
+-- u is s and then t, and d has room for it from index at on
+pub record Room (d : List ℕ) (at : ℕ) (s t u : List ℕ) : Type 0 where
+  pub is : u ≡ s ++ t
+  pub room : at + length u ≤ length d
+
+module _ {d s t u : List ℕ} {at : ℕ} (r : Room d at s t u) where
+  pub room-first : at + length s ≤ length d
+  room-first = omega (arith, r .room, ap length (r .is), length-append s t)
+
+  pub room-next : {e : List ℕ} {b : ℕ} → Run d at s e b → b + length t ≤ length d
+  room-next g = omega (arith, r .room, ap length (r .is), length-append s t, g .next)
+
+  pub run-both : {e f : List ℕ} {b c : ℕ} → Run d at s e b → Run e b t f c → Run d at u f c
+  run-both g h = run-is (run-two g h (omega (arith, room-next g, h .next))) (sym (r .is))

@@ -4,5 +4,4 @@ pub mod Lengths
 pub mod Numbers
 pub mod Offsets
 pub mod ReadBack
-pub mod Rooms
 pub mod Signs

@@ -8,11 +8,11 @@ use Rattle.ion.specs.Offset.{offsetOf}
 use Rattle.ion.specs.Output.{Run}
 use Rattle.ion.specs.Padded.{padded}
 use Rattle.ion.specs.Text.{marked, fractionText, offsetText, fieldsText}
+use Rattle.output.proofs.Runs.{Room, room-first, room-next, run-both}
 use Rattle.timestamp.proofs.Valid.{valid-in-range, valid-offset}
 use Rattle.timestamp_text.specs.Fronts.{toMonth, toDay, toMinute, toSecond, toFraction}
 use Rattle.timestamp_text.proofs.Forms.{year-form, month-form, day-form, minute-form, second-form}
 use Rattle.timestamp_text.proofs.Lengths.{length-year, length-month, length-day, length-minute, length-marked, length-fraction, length-offset}
-use Rattle.timestamp_text.proofs.Rooms.{Room, room-first, room-next, run-both}
 use Rattle.timestamp_text.proofs.formatting.text_into.Statement.{statement}
 use Rattle.timestamp_text.proofs.formatting.text_into.Tie as tie
 
