@@ -9,9 +9,10 @@ use native.Mathlib.Numerals.{add-one}
 use native.Mathlib.Omega.{arith}
 use borrow.Author.Tests.{le-leb, lt-leb, ltb-false, leb-true, leb-false}
 use lib.Dec.{leb, ltb, lit<}
-use lib.ListN.{length, drop, getD}
+use lib.ListN.{length, drop}
 use Rattle.places.specs.Places.{plain, placesOn, valueFrom}
 use Rattle.places.proofs.Laws.{places-append, places-add, value-on}
+use Rattle.places.proofs.Values.{Below, place-more}
 use Rattle.ion.specs.VarUInt.{groups, upTo, scanFrom}
 use Rattle.ion.specs.declared.VarUIntRead.the-variants.{Value, Bad}
 
@@ -99,16 +100,7 @@ pub record Scanned (l v k : ℕ) (s : List ℕ) (m j : ℕ) : Type 0 where
   pub some : k < j
   pub within : j ≤ k + length s
   pub held : v < 128 ^ k → m < 128 ^ j
-  pub bytes : ((i : ℕ) → getD s i 0 < 256) → placesOn 128 plain k v s ≡ groups j m ++ drop (j - k) s
-
--- a byte c in front of s is the lowest of one place more
-place-more : (k v c : ℕ) (r : List ℕ) → c < 128 → placesOn 128 plain k v (c ∷ r) ≡ placesOn 128 plain (suc k) (v * 128 + c % 128) r
-unfolding placesOn
-place-more k v c r h =
-    let w = v * 128 + c % 128 in
-    let e : w / 128 ≡ v = omega arith in
-    let f : w % 128 ≡ c = omega arith in
-    rw (e, f)
+  pub bytes : Below 256 s → placesOn 128 plain k v s ≡ groups j m ++ drop (j - k) s
 
 place-last : (k v c : ℕ) (r : List ℕ) → 128 ≤ c → c < 256 → placesOn 128 plain k v (c ∷ r) ≡ groups (suc k) (v * 128 + c % 128) ++ r
 place-last k v c r h l =
@@ -134,12 +126,13 @@ scanned-last l v k c w r e h b =
 scanned-more : (l v k c w : ℕ) (r : List ℕ) (m j : ℕ) → v * 128 + c % 128 ≡ w → c < 128 → Scanned l w (k + 1) r m j → Scanned l v k (c ∷ r) m j
 scanned-more l v k c w r m j e h s =
     let d : j - k ≡ suc (j - (k + 1)) = omega (arith, s .some) in
+    let f : v * 128 + c ≡ w = omega arith in
     record {
       limited = s .limited;
       some = omega (arith, s .some);
       within = omega (arith, s .within);
       held = λ g. s .held (rw e at (grown k v c g));
-      bytes = λ g. place-more k v c r h ∙ rw (e, ← add-one k, d) (s .bytes (λ i. g (suc i)));
+      bytes = λ g. place-more 128 k v c r h ∙ rw (f, ← add-one k, d) (s .bytes (λ i. g (suc i)));
     }
 
 pub scan-gives : (l n v k : ℕ) (s : List ℕ) (m j : ℕ) → scanFrom l n v k s ≡ Value m j → Scanned l v k s m j

@@ -2,18 +2,19 @@
 -- read. Assumes nothing.
 use mathlib.Core.Path.{_≡_, refl, sym, ap, _∙_}
 use mathlib.Core.Bool.{Bool, true, false, cond, _&&_}
-use mathlib.Core.List.{List, [], _∷_, _++_, append-nil}
-use Prim.Native.Nat.{ℕ, zero, suc, _+_, _-_, _*_, _/_, _%_, _^_, _≤_, _<_}
-use native.Mathlib.Nat.{pow-zero, pow-suc, pow-succ', add-zero, zero-add, mul-assoc, one-le-pow, le-of-eq, le-trans, lt-of-lt-of-le, lt-of-le-of-lt, lt-of-mul-lt-mul-right, mul-le-mul-left, mul-le-mul-right, le-add-right, le-mul-of-pos-right}
+use mathlib.Core.List.{List, _∷_}
+use Prim.Native.Nat.{ℕ, suc, _+_, _-_, _*_, _/_, _^_, _≤_, _<_}
+use native.Mathlib.Nat.{pow-succ', mul-assoc, le-of-eq, le-trans, lt-of-le-of-lt, lt-of-mul-lt-mul-right, mul-le-mul-left, mul-le-mul-right}
 use native.Mathlib.Decide.{decLt}
 use native.Mathlib.Omega.{arith}
 use borrow.Author.Tests.{lt-ltb, le-ltb, ltb-true, eq-eqb, ne-eqb, eqb-true}
-use lib.Count.{leadingZeros, leading-length}
+use lib.Count.{leadingZeros}
 use lib.Dec.{eqb, ltb, lit<}
-use lib.ListN.{length, getD}
-use lib.Pow.{pow-add, pow-mono}
-use Rattle.places.specs.Places.{plain, placesOn, places, valueFrom}
-use Rattle.places.proofs.Laws.{length-places, count-zero, count-holds, count-least, count-unique, value-places}
+use lib.ListN.{length}
+use Rattle.places.specs.Places.{plain, places, placeCount, valueFrom}
+use Rattle.places.proofs.Laws.{length-places, count-zero, count-next, count-holds, count-least, value-places}
+use Rattle.places.proofs.Values.{Below, value-is, value-least, value-below}
+use Rattle.places.proofs.Bits.{double-zeros}
 use Rattle.ion.specs.Int.{intCount, int, bigEndian, readInt}
 use Rattle.ion.specs.declared.IntRead.the-variants.{Value, Bad}
 
@@ -45,48 +46,7 @@ value-int m = value-places 256 (lit< tt) plain plain (λ d h. refl) (intCount m)
 pub int-injective : (m n : ℕ) → int m ≡ int n → m ≡ n
 int-injective m n e = sym (value-int m) ∙ ap bigEndian e ∙ value-int n
 
--- ---- bytes and the number that they make
-
-abbrev pub Bytes : List ℕ → Type 0
-Bytes s = (i : ℕ) → getD s i 0 < 256
-
--- bytes are the places of the number that they make
-places-value : (k v : ℕ) (s t : List ℕ) → Bytes s → placesOn 256 plain (k + length s) (valueFrom 256 plain v s) t ≡ placesOn 256 plain k v (s ++ t)
-unfolding placesOn valueFrom
-places-value k v [] t h = ap (λ (n : ℕ). placesOn 256 plain n v t) (add-zero k)
-places-value k v (d ∷ r) t h =
-    let b = h 0 in
-    let e : k + suc (length r) ≡ suc k + length r = omega arith in
-    let q : (v * 256 + d) / 256 ≡ v = omega arith in
-    let m : (v * 256 + d) % 256 ≡ d = omega arith in
-    ap (λ (n : ℕ). placesOn 256 plain n (valueFrom 256 plain (v * 256 + d) r) t) e
-    ∙ places-value (suc k) (v * 256 + d) r t (λ i. h (suc i))
-    ∙ rw (q, m)
-
-pub bytes-value : (s : List ℕ) → Bytes s → places 256 plain (length s) (bigEndian s) ≡ s
-unfolding places placesOn
-bytes-value s h = ap (λ (n : ℕ). placesOn 256 plain n (bigEndian s) []) (sym (zero-add (length s))) ∙ places-value 0 0 s [] h ∙ append-nil s
-
--- bytes below those of v make at least v of them, and less than one more
-value-least : (v : ℕ) (s : List ℕ) → v * 256 ^ length s ≤ valueFrom 256 plain v s
-unfolding valueFrom
-value-least v [] = omega (arith, pow-zero 256)
-value-least v (d ∷ r) =
-    let p = 256 ^ length r in
-    let e : v * 256 ^ suc (length r) ≡ v * 256 * p = ap (λ (x : ℕ). v * x) (pow-succ' 256 (length r)) ∙ sym (mul-assoc v 256 p) in
-    le-trans (le-of-eq e) (le-trans (mul-le-mul-right p (le-add-right (v * 256) d)) (value-least (v * 256 + d) r))
-
-value-below : (v : ℕ) (s : List ℕ) → Bytes s → valueFrom 256 plain v s < suc v * 256 ^ length s
-unfolding valueFrom
-value-below v [] h = omega (arith, pow-zero 256)
-value-below v (d ∷ r) h =
-    let p = 256 ^ length r in
-    let e : suc v * 256 * p ≡ suc v * 256 ^ suc (length r) = mul-assoc (suc v) 256 p ∙ ap (λ (x : ℕ). suc v * x) (sym (pow-succ' 256 (length r))) in
-    let l : suc (v * 256 + d) ≤ suc v * 256 = omega (arith, h 0) in
-    lt-of-lt-of-le (value-below (v * 256 + d) r (λ i. h (suc i))) (le-trans (mul-le-mul-right p l) (le-of-eq e))
-
-pub value-above : (v : ℕ) (s : List ℕ) → v ≤ valueFrom 256 plain v s
-value-above v s = le-trans (le-mul-of-pos-right v (one-le-pow (length s) 256 (lit< tt))) (value-least v s)
+-- ---- the first bit
 
 -- the first bit of a form is clear
 pub first-clear : (m b : ℕ) (r : List ℕ) → int m ≡ b ∷ r → b < 128
@@ -96,18 +56,18 @@ first-clear m b r e =
     let v : valueFrom 256 plain (0 * 256 + b) r ≡ m = sym (ap bigEndian e) ∙ value-int m in
     let n : intCount m ≡ suc (length r) = sym (length-int m) ∙ ap length e in
     let h : 2 * m < 256 * p = rw (n, pow-succ' 256 (length r)) at (int-held m) in
-    let l : b * p ≤ m = omega (arith, value-least (0 * 256 + b) r) in
+    let l : b * p ≤ m = omega (arith, value-least 256 (0 * 256 + b) r) in
     let k : 2 * b * p < 256 * p = lt-of-le-of-lt (le-trans (le-of-eq (mul-assoc 2 b p)) (mul-le-mul-left 2 l)) h in
     let g : 2 * b < 256 = lt-of-mul-lt-mul-right p k in
     omega arith
 
 -- and no shorter bytes whose first bit is clear make the number
-pub int-shortest : (b : ℕ) (r : List ℕ) → b < 128 → Bytes (b ∷ r) → length (int (bigEndian (b ∷ r))) ≤ length (b ∷ r)
+pub int-shortest : (b : ℕ) (r : List ℕ) → b < 128 → Below 256 (b ∷ r) → length (int (bigEndian (b ∷ r))) ≤ length (b ∷ r)
 unfolding valueFrom
 int-shortest b r h l =
     let p = 256 ^ length r in
     let m = bigEndian (b ∷ r) in
-    let u : valueFrom 256 plain (0 * 256 + b) r < suc (0 * 256 + b) * p = value-below (0 * 256 + b) r (λ i. l (suc i)) in
+    let u : valueFrom 256 plain (0 * 256 + b) r < suc (0 * 256 + b) * p = value-below 256 (0 * 256 + b) r (λ i. l (suc i)) in
     let k : suc (0 * 256 + b) * p ≤ 128 * p = mul-le-mul-right p (omega arith) in
     let g = int-least (suc (length r)) m (rw (pow-succ' 256 (length r)) (omega arith)) in
     omega (arith, length-int m)
@@ -141,7 +101,7 @@ read-long s h = go (decLt (bigEndian s) (2 ^ 64))
 pub read-int : (m : ℕ) → m < 2 ^ 64 → readInt (int m) ≡ Value m
 read-int m h = read-shortest (int m) m (value-int m) h (sym (length-int m))
 
-pub read-int-is : (s : List ℕ) (m : ℕ) → Bytes s → readInt s ≡ Value m → (m < 2 ^ 64) × (s ≡ int m)
+pub read-int-is : (s : List ℕ) (m : ℕ) → Below 256 s → readInt s ≡ Value m → (m < 2 ^ 64) × (s ≡ int m)
 unfolding readInt
 read-int-is s m b e = go (ltb v (2 ^ 64)) (eqb (intCount v) (length s)) refl refl e
   where
@@ -151,34 +111,16 @@ read-int-is s m b e = go (ltb v (2 ^ 64)) (eqb (intCount v) (length s)) refl ref
     go : (t u : Bool) → ltb v (2 ^ 64) ≡ t → eqb (intCount v) (length s) ≡ u → cond (t && u) (Value v) Bad ≡ Value m → (m < 2 ^ 64) × (s ≡ int m)
     go true true f g e =
         let em : v ≡ m = cc in
-        (rw em at (ltb-true v (2 ^ 64) f), sym (bytes-value s b) ∙ bytes-int v (length s) (sym (eqb-true (intCount v) (length s) g)) ∙ ap int em)
+        (rw em at (ltb-true v (2 ^ 64) f), sym (value-is 256 s b) ∙ bytes-int v (length s) (sym (eqb-true (intCount v) (length s) g)) ∙ ap int em)
     go true false f g e = absurd (let z : _≡_ {A = ℕ} 0 1 = cc in omega arith)
     go false u f g e = absurd (let z : _≡_ {A = ℕ} 0 1 = cc in omega arith)
 
 -- ---- the number of bytes from the leading zeros
 
-two-pow : (n : ℕ) → 2 ^ (8 * n) ≡ 256 ^ n
-two-pow zero = refl
-two-pow (suc n) =
-    let e : 8 * suc n ≡ 8 * n + 8 = omega arith in
-    rw (e, pow-add 2 (8 * n) 8, two-pow n) (sym (pow-suc 256 n))
-
 pub int-zero : intCount 0 ≡ 0
 unfolding intCount
 int-zero = count-zero 256 (lit< tt)
 
--- a number of b bits
-bits-bytes : (b m : ℕ) → 0 < m → m < 2 ^ b → 2 ^ b ≤ 2 * m + 1 → intCount m ≡ suc (b / 8)
-unfolding intCount
-bits-bytes zero m p h l = absurd (omega arith)
-bits-bytes (suc c) m p h l =
-    let n : ℕ = suc c / 8 in
-    let up : 2 ^ suc (suc c) ≤ 2 ^ (8 * suc n) = pow-mono (omega arith) in
-    let down : 2 ^ (8 * n) ≤ 2 ^ suc c = pow-mono (omega arith) in
-    count-unique 256 (lit< tt) (suc n) (2 * m) (omega (arith, two-pow (suc n), pow-suc 2 (suc c))) (omega (arith, two-pow n, two-pow (suc n), pow-suc 2 c, pow-suc 256 n))
-
 pub int-zeros : (w m : ℕ) → 0 < m → m < 2 ^ w → intCount m ≡ suc ((w - leadingZeros w m) / 8)
-int-zeros w m p h =
-    let s = leading-length w m h in
-    let e : w - leadingZeros w m ≡ s .0 = omega arith in
-    rw e (bits-bytes (s .0) m p (s .2) (s .3))
+unfolding intCount placeCount
+int-zeros w m p h = count-next 256 (lit< tt) (2 * m) (omega arith) ∙ double-zeros 8 (lit< tt) w m h

@@ -4,31 +4,34 @@ use mathlib.Core.Path.{_≡_, refl, sym, ap, ap₂, _∙_}
 use mathlib.Core.Bool.{Bool, true, false, cond}
 use mathlib.Core.List.{List, [], _∷_, _++_}
 use Prim.Native.Nat.{ℕ, zero, suc, _+_, _-_, _*_, _/_, _%_, _^_, _≤_, _<_}
-use native.Mathlib.Nat.{pow-suc, pow-succ', div-lt-iff-lt-mul, one-le-pow}
+use native.Mathlib.Nat.{pow-succ', div-lt-iff-lt-mul, one-le-pow}
 use native.Mathlib.Omega.{arith}
 use borrow.Author.Tests.{le-ltb, le-leb, lt-leb, eq-eqb, leb-true, leb-false, eqb-true}
-use lib.Count.{leadingZeros, leading-length}
+use lib.Count.{leadingZeros}
 use lib.Dec.{eqb, leb, ltb, lit<}
 use lib.IntN.{ℤ, natAbs}
 use mir.Syntax.{w64}
 use mir.Val.{SFits, ofZ, toZ}
 use mir.Facts.{toZ-ofZ}
-use lib.ListN.{length, drop, getD}
+use lib.ListN.{length, drop}
 use lib.Seq.{drop-append-seam}
 use Rattle.places.specs.Places.{placesOn}
+use Rattle.places.proofs.Laws.{held, place-monotone}
+use Rattle.places.proofs.Values.{Below, below-cons}
+use Rattle.places.proofs.Bits.{double-zeros}
 use Rattle.ion.specs.VarUInt.{groups, scanFrom}
 use Rattle.ion.specs.VarInt.{isNegative, signedCount, signFirst, signed, varint, ifShortest, unsign, readVarInt}
 use Rattle.ion.specs.declared.VarUIntRead.{VarUIntRead}
 use Rattle.ion.specs.declared.VarUIntRead.the-variants as found
 use Rattle.ion.specs.declared.VarIntRead.the-variants.{Value, Cut, Bad}
 use Rattle.binary.proofs.Groups.{groups-one, groups-more, length-groups, scan-more, scan-last, scan-groups, Scanned, scan-gives}
-use Rattle.binary.proofs.VarUInts.{count-held, count-shortest, count-some, count-monotone, bits-count}
+use Rattle.binary.proofs.VarUInts.{count-shortest, count-some}
 
 -- ---- how many bytes a magnitude and its sign have: they hold both, and no fewer do
 
 pub signed-held : (m : ℕ) → 2 * m < 128 ^ signedCount m
 unfolding signedCount
-signed-held m = count-held (2 * m)
+signed-held m = held 128 (lit< tt) (2 * m)
 
 pub signed-shortest : (n m : ℕ) → 2 * m < 128 ^ suc n → signedCount m ≤ suc n
 unfolding signedCount
@@ -40,7 +43,7 @@ signed-some m = count-some (2 * m)
 
 signed-monotone : (m l : ℕ) → m ≤ l → signedCount m ≤ signedCount l
 unfolding signedCount
-signed-monotone m l h = count-monotone (2 * m) (2 * l) (omega arith)
+signed-monotone m l h = place-monotone 128 (lit< tt) (2 * m) (2 * l) (omega arith)
 
 length-sign : (g : Bool) (s : List ℕ) → length (signFirst g s) ≡ length s
 length-sign false s = refl
@@ -180,7 +183,7 @@ signed-bytes g c m (suc j) r h eg n z e =
     ∙ sym (sign-append g (f .byte) (f .rest) d)
     ∙ ap (λ (x : List ℕ). signFirst g x ++ d) (sym (f .is))
 
-pub read-signed-is : (l : ℕ) (s : List ℕ) (g : Bool) (m j : ℕ) → ((i : ℕ) → getD s i 0 < 256) → readVarInt l s ≡ Value g m j
+pub read-signed-is : (l : ℕ) (s : List ℕ) (g : Bool) (m j : ℕ) → Below 256 s → readVarInt l s ≡ Value g m j
     → (m ≤ l) × (j ≡ signedCount m) × (s ≡ signed g m ++ drop j s)
 unfolding readVarInt placesOn
 read-signed-is l [] g m j h e = absurd (let z : _≡_ {A = ℕ} 0 1 = cc in omega arith)
@@ -188,11 +191,8 @@ read-signed-is l (c ∷ r) g m j h e =
     let o = opened l c r g m j e in
     let f = o .1 in
     let z : j - 0 ≡ j = omega arith in
-    (f .limited, sym (o .2), signed-bytes g c m j r (h 0) (o .0) (o .2) (f .some) (rw z at (f .bytes below)))
-  where
-    below : (i : ℕ) → getD (unsign c ∷ r) i 0 < 256
-    below zero = let x = h 0 in omega arith
-    below (suc i) = h (suc i)
+    let b = below-cons 256 (unsign c) r (omega (arith, h 0)) (λ i. h (suc i)) in
+    (f .limited, sym (o .2), signed-bytes g c m j r (h 0) (o .0) (o .2) (f .some) (rw z at (f .bytes b)))
 
 -- ---- the reader's steps, by the first byte
 
@@ -229,17 +229,6 @@ signed-u64 m h = signed-shortest 9 m (omega arith)
 
 -- ---- the number of bytes from the leading zeros
 
-bits-signed : (b m : ℕ) → m < 2 ^ b → 2 ^ b ≤ 2 * m + 1 → signedCount m ≡ suc (b / 7)
-unfolding signedCount
-bits-signed zero m h l = bits-count 0 (2 * m) (omega arith) (omega arith)
-bits-signed (suc c) m h l =
-    let p = pow-suc 2 c in
-    let q = pow-suc 2 (suc c) in
-    let e : suc (suc c) - 1 ≡ suc c = omega arith in
-    bits-count (suc (suc c)) (2 * m) (omega arith) (omega arith) ∙ ap (λ (x : ℕ). suc (x / 7)) e
-
 pub zeros-signed : (w m : ℕ) → m < 2 ^ w → signedCount m ≡ suc ((w - leadingZeros w m) / 7)
-zeros-signed w m h =
-    let s = leading-length w m h in
-    let e : w - leadingZeros w m ≡ s .0 = omega arith in
-    rw e (bits-signed (s .0) m (s .2) (s .3))
+unfolding signedCount
+zeros-signed w m h = double-zeros 7 (lit< tt) w m h

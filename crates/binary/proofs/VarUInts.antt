@@ -4,38 +4,29 @@ use mathlib.Core.Path.{_≡_, refl, sym, ap, _∙_}
 use mathlib.Core.Bool.{Bool, true, false, cond}
 use mathlib.Core.List.{List, [], _∷_, _++_}
 use Prim.Native.Nat.{ℕ, zero, suc, _+_, _-_, _*_, _/_, _%_, _^_, _≤_, _<_}
-use native.Mathlib.Nat.{pow-suc, pow-succ', lt-of-le-of-lt, div-eq-of-lt, div-lt-iff-lt-mul, le-div-iff-mul-le, one-le-pow}
+use native.Mathlib.Nat.{pow-succ', div-eq-of-lt, div-lt-iff-lt-mul, le-div-iff-mul-le, one-le-pow}
 use native.Mathlib.Decide.{decLt}
 use native.Mathlib.Omega.{arith}
 use borrow.Author.Tests.{lt-ltb, le-ltb, ne-eqb, ltb-false}
-use lib.Count.{leadingZeros, leading-length}
+use lib.Count.{leadingZeros}
 use lib.Dec.{eqb, ltb, lit<}
-use lib.ListN.{length, drop, getD, length-append}
-use lib.Pow.{pow-add, pow-mono}
+use lib.ListN.{length, drop, length-append}
 use lib.Seq.{drop-append-seam}
-use Rattle.places.specs.Places.{placesOn, placeCount}
-use Rattle.places.proofs.Laws.{held, fewest, place-unique}
+use Rattle.places.specs.Places.{placesOn}
+use Rattle.places.proofs.Laws.{held, fewest, place-some, place-monotone, place-is}
+use Rattle.places.proofs.Values.{Below}
+use Rattle.places.proofs.Bits.{zeros-places}
 use Rattle.ion.specs.VarUInt.{groups, groupCount, varuint, scanFrom, zeroFirst, readVarUInt}
 use Rattle.ion.specs.declared.VarUIntRead.the-variants.{Value, Bad}
 use Rattle.binary.proofs.Groups.{groups-one, groups-more, length-groups, scan-groups, Scanned, scan-gives}
 
 -- ---- how many groups a number has: its groups hold it, and no fewer do
 
-pub count-held : (m : ℕ) → m < 128 ^ groupCount m
-count-held m = held 128 (lit< tt) m
-
 pub count-shortest : (n m : ℕ) → m < 128 ^ suc n → groupCount m ≤ suc n
 count-shortest n m h = fewest 128 (lit< tt) (suc n) m (omega arith) h
 
-pub count-is : (n m : ℕ) → 128 ^ n ≤ m → m < 128 ^ suc n → groupCount m ≡ suc n
-count-is n m l h = place-unique 128 (lit< tt) n m h (omega arith)
-
 pub count-some : (m : ℕ) → 0 < groupCount m
-unfolding placeCount
-count-some m = omega arith
-
-pub count-monotone : (m l : ℕ) → m ≤ l → groupCount m ≤ groupCount l
-count-monotone m l h = fewest 128 (lit< tt) (groupCount l) m (count-some l) (lt-of-le-of-lt h (count-held l))
+count-some m = place-some 128 (lit< tt) m
 
 pub length-varuint : (m : ℕ) → length (varuint m) ≡ groupCount m
 unfolding varuint
@@ -91,7 +82,7 @@ padded (suc (suc n)) m r z h = zero-first n m r h ∙ go (decLt m (128 ^ suc n))
         lt-ltb m (128 ^ suc n) l ∙ sym (lt-ltb (groupCount m) (suc (suc n)) (omega arith))
     go (no l) =
         let b : 128 ^ suc n ≤ m = omega arith in
-        le-ltb m (128 ^ suc n) b ∙ sym (le-ltb (groupCount m) (suc (suc n)) (omega (arith, count-is (suc n) m b h)))
+        le-ltb m (128 ^ suc n) b ∙ sym (le-ltb (groupCount m) (suc (suc n)) (omega (arith, place-is 128 (lit< tt) (suc n) m b h)))
 
 pub read-padded : (l : ℕ) (s : List ℕ) → zeroFirst s ≡ true → readVarUInt l s ≡ Bad
 unfolding readVarUInt
@@ -107,8 +98,9 @@ pub read-varuint : (l m : ℕ) (r : List ℕ) → m ≤ l → readVarUInt l (var
 unfolding readVarUInt varuint
 read-varuint l m r h =
     let n = groupCount m in
-    rw (padded n m r (count-some m) (count-held m), le-ltb n n (omega arith))
-    (scan-groups l (groupCount l) n m r (count-some m) (count-monotone m l h) (count-held m) ∙ rw (le-ltb l m h))
+    let k = held 128 (lit< tt) m in
+    rw (padded n m r (count-some m) k, le-ltb n n (omega arith))
+    (scan-groups l (groupCount l) n m r (count-some m) (place-monotone 128 (lit< tt) m l h) k ∙ rw (le-ltb l m h))
 
 -- so none is the beginning of another
 pub prefix-free : (x y : ℕ) (r s : List ℕ) → varuint x ++ r ≡ varuint y ++ s → (x ≡ y) × (r ≡ s)
@@ -129,7 +121,7 @@ opened l s m j e = go (zeroFirst s) refl e
     go true f e = absurd (let z : _≡_ {A = ℕ} 0 1 = cc in omega arith)
     go false f e = (f, scan-gives l (groupCount l) 0 0 s m j e)
 
-pub read-is : (l : ℕ) (s : List ℕ) (m j : ℕ) → ((i : ℕ) → getD s i 0 < 256) → readVarUInt l s ≡ Value m j
+pub read-is : (l : ℕ) (s : List ℕ) (m j : ℕ) → Below 256 s → readVarUInt l s ≡ Value m j
     → (m ≤ l) × (j ≡ groupCount m) × (s ≡ varuint m ++ drop j s)
 unfolding varuint placesOn
 read-is l s m j g e =
@@ -150,23 +142,5 @@ read-within l s m j e =
 
 -- ---- the number of groups from the leading zeros
 
-two-pow : (n : ℕ) → 2 ^ (7 * n) ≡ 128 ^ n
-two-pow zero = refl
-two-pow (suc n) =
-    let e : 7 * suc n ≡ 7 * n + 7 = omega arith in
-    rw (e, pow-add 2 (7 * n) 7, two-pow n) (sym (pow-suc 128 n))
-
--- a number of b bits, 0 having none
-pub bits-count : (b v : ℕ) → v < 2 ^ b → 2 ^ b ≤ 2 * v + 1 → groupCount v ≡ suc ((b - 1) / 7)
-bits-count zero v h l = omega (arith, count-some v, count-shortest 0 v (omega arith))
-bits-count (suc c) v h l =
-    let n : ℕ = (suc c - 1) / 7 in
-    let up : 2 ^ suc c ≤ 2 ^ (7 * suc n) = pow-mono (omega arith) in
-    let down : 2 ^ (7 * n) ≤ 2 ^ c = pow-mono (omega arith) in
-    count-is n v (omega (arith, two-pow n, pow-suc 2 c)) (omega (arith, two-pow (suc n)))
-
 pub zeros-count : (w v : ℕ) → v < 2 ^ w → groupCount v ≡ suc ((w - leadingZeros w v - 1) / 7)
-zeros-count w v h =
-    let s = leading-length w v h in
-    let e : w - leadingZeros w v ≡ s .0 = omega arith in
-    rw e (bits-count (s .0) v (s .2) (s .3))
+zeros-count w v h = zeros-places 7 (lit< tt) w v h

@@ -2,7 +2,7 @@
 use mathlib.Core.Path.{_≡_, refl, sym, ap, ap₂, _∙_}
 use mathlib.Core.List.{List, [], _∷_, _++_}
 use Prim.Native.Nat.{ℕ, zero, suc, _+_, _-_, _*_, _/_, _%_, _^_, _≤_, _<_}
-use native.Mathlib.Nat.{pow-zero, pow-suc, pow-succ', zero-add, add-zero, add-suc, one-le-pow, div-one, div-div-eq-div-mul, div-lt-iff-lt-mul, div-lt-self, div-le-self, div-add-mod', mod-lt, le-trans, lt-of-lt-of-le, mul-le-mul-left, mul-suc, pow-le-pow-right}
+use native.Mathlib.Nat.{pow-zero, pow-suc, pow-succ', zero-add, add-zero, add-suc, one-le-pow, div-one, div-div-eq-div-mul, div-lt-iff-lt-mul, div-lt-self, div-le-self, div-add-mod', mod-lt, le-trans, lt-of-lt-of-le, lt-of-le-of-lt, mul-comm, mul-le-mul-left, mul-suc, pow-le-pow-right}
 use native.Mathlib.Decide.{decLe}
 use native.Mathlib.Omega.{arith}
 use lib.Arith.{mod-mul, digits-div, digits-mod}
@@ -131,9 +131,16 @@ module _ (b : ℕ) (hb : 1 < b) where
   fewest zero n l h = absurd (omega arith)
   fewest (suc k) n l h = omega (arith, count-least k (n / b) (down k n h))
 
-  pub place-unique : (n m : ℕ) → m < b ^ suc n → b ^ n ≤ b * (m / b) + (b - 1) → placeCount b m ≡ suc n
+  pub place-some : (n : ℕ) → 0 < placeCount b n
   unfolding placeCount
-  place-unique n m h l = ap suc (count-unique n (m / b) (down n m h) l)
+  place-some n = omega arith
+
+  pub place-monotone : (m n : ℕ) → m ≤ n → placeCount b m ≤ placeCount b n
+  place-monotone m n h = fewest (placeCount b n) m (place-some n) (lt-of-le-of-lt h (held n))
+
+  pub place-is : (n m : ℕ) → b ^ n ≤ m → m < b ^ suc n → placeCount b m ≡ suc n
+  unfolding placeCount
+  place-is n m l h = ap suc (count-unique n (m / b) (down n m h) (omega (arith, div-add-mod' m b, mod-lt m pos, mul-comm b (m / b))))
 
   -- ---- the last places
 

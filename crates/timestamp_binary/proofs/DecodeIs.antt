@@ -6,8 +6,8 @@ use Prim.Native.Nat.{ℕ, zero, suc, _+_, _^_, _≤_, _<_}
 use native.Mathlib.Omega.{arith}
 use borrow.Author.Tests.{ltb-true}
 use lib.Dec.{ltb, lit<}
-use lib.ListN.{length, take, drop, getD}
-use lib.Seq.{getD-drop, getD-append-add}
+use lib.ListN.{length, take, drop}
+use Rattle.places.proofs.Values.{Below, below-none, below-cons, below-append, below-drop, below-after}
 use Rattle.ion.specs.VarUInt.{varuint, readVarUInt}
 use Rattle.ion.specs.VarInt.{signed, varint, readVarInt}
 use Rattle.ion.specs.Int.{int, readInt}
@@ -29,18 +29,6 @@ use Rattle.binary.proofs.Ints.{read-int-is}
 use Rattle.timestamp_binary.specs.Encodable.{Encodable}
 use Rattle.timestamp_binary.proofs.DecodeBack.{fraction-bytes}
 
--- bytes are below 256
-abbrev pub Bytes : List ℕ → Type 0
-Bytes s = (i : ℕ) → getD s i 0 < 256
-
-pub bytes-drop : (n : ℕ) (s : List ℕ) → Bytes s → Bytes (drop n s)
-bytes-drop n s h i = rw (getD-drop n s i 0) (h (n + i))
-
-bytes-after : (s a t : List ℕ) → s ≡ a ++ t → Bytes s → Bytes t
-bytes-after s a t e h i =
-    let g : getD s (length a + i) 0 ≡ getD t i 0 = ap (λ (l : List ℕ). getD l (length a + i) 0) e ∙ getD-append-add a t i 0 in
-    rw g at (h (length a + i))
-
 -- ---- the offset
 
 offset-bytes : (g : Bool) (m : ℕ) → offsetBytes (signedOffset g m) ≡ signed g m
@@ -54,7 +42,7 @@ within false m h = omega arith
 within true zero h = tt
 within true (suc m) h = omega arith
 
-pub offset-is : (s : List ℕ) (o : Offset) (r : List ℕ) → Bytes s → decodeOffset s ≡ found (o, r) → (s ≡ offsetBytes o ++ r) × WithinDay o
+pub offset-is : (s : List ℕ) (o : Offset) (r : List ℕ) → Below 256 s → decodeOffset s ≡ found (o, r) → (s ≡ offsetBytes o ++ r) × WithinDay o
 unfolding decodeOffset
 offset-is s o r h e = go (readVarInt 1439 s) refl e
   where
@@ -74,24 +62,21 @@ record Split (n : ℕ) (s l t : List ℕ) : Type 0 where
   bytes : s ≡ varuints l ++ t
   most : length l ≤ n
   fewer : length l < n → t ≡ []
-  small : (i : ℕ) → getD l i 0 < 16384
+  small : Below 16384 l
 
-no-small : (i : ℕ) → getD {A = ℕ} [] i 0 < 16384
-no-small i = lit< tt
-
-fields-is : (n : ℕ) (s l r : List ℕ) → Bytes s → decodeFields n s ≡ found (l, r) → Split n s l r
+fields-is : (n : ℕ) (s l r : List ℕ) → Below 256 s → decodeFields n s ≡ found (l, r) → Split n s l r
 unfolding decodeFields varuints
 fields-is zero s l r h e =
     let both : _≡_ {A = List ℕ × List ℕ} ([], s) (l, r) = cc in
     let el = ap (λ (p : List ℕ × List ℕ). p .0) both in
     let er = ap (λ (p : List ℕ × List ℕ). p .1) both in
-    rw (← el, ← er) (record { bytes = refl; most = omega arith; fewer = λ q. absurd (omega arith); small = no-small })
+    rw (← el, ← er) (record { bytes = refl; most = omega arith; fewer = λ q. absurd (omega arith); small = below-none 16384 (lit< tt) })
 fields-is (suc n) [] l r h e =
     let both : _≡_ {A = List ℕ × List ℕ} ([], []) (l, r) = cc in
     let el = ap (λ (p : List ℕ × List ℕ). p .0) both in
     let er = ap (λ (p : List ℕ × List ℕ). p .1) both in
-    rw (← el, ← er) (record { bytes = refl; most = omega arith; fewer = λ q. refl; small = no-small })
-fields-is (suc n) (b ∷ s) l r h e = go (λ k m t. fields-is n (drop k (b ∷ s)) m t (bytes-drop k (b ∷ s) h)) (readVarUInt 16383 (b ∷ s)) refl e
+    rw (← el, ← er) (record { bytes = refl; most = omega arith; fewer = λ q. refl; small = below-none 16384 (lit< tt) })
+fields-is (suc n) (b ∷ s) l r h e = go (λ k m t. fields-is n (drop k (b ∷ s)) m t (below-drop 256 k (b ∷ s) h)) (readVarUInt 16383 (b ∷ s)) refl e
   where
     step : (v k : ℕ) → readVarUInt 16383 (b ∷ s) ≡ uint.Value v k
         → ((m t : List ℕ) → decodeFields n (drop k (b ∷ s)) ≡ found (m, t) → Split n (drop k (b ∷ s)) m t)
@@ -107,12 +92,8 @@ fields-is (suc n) (b ∷ s) l r h e = go (λ k m t. fields-is n (drop k (b ∷ s
           bytes = d .2 ∙ ap (λ (t : List ℕ). varuint v ++ t) (c .bytes) ∙ sym (append-assoc (varuint v) (varuints (p .0)) (p .1));
           most = omega (arith, c .most);
           fewer = λ q. c .fewer (omega arith);
-          small = λ i. all (d .0) (c .small) i;
+          small = below-cons 16384 v (p .0) (omega (arith, d .0)) (c .small);
         })
-      where
-        all : v ≤ 16383 → ((i : ℕ) → getD (p .0) i 0 < 16384) → (i : ℕ) → getD (v ∷ p .0) i 0 < 16384
-        all x y zero = omega arith
-        all x y (suc i) = y i
     step v k f ih nothing g e = absurd (let z : _≡_ {A = ℕ} 0 1 = cc in omega arith)
 
     go : ((k : ℕ) (m t : List ℕ) → decodeFields n (drop k (b ∷ s)) ≡ found (m, t) → Split n (drop k (b ∷ s)) m t)
@@ -129,7 +110,7 @@ record Fraction (s : List ℕ) (d c : ℕ) : Type 0 where
   coefficient : c < 2 ^ 64
   none : d ≡ 0 → c ≡ 0
 
-fraction-is : (s : List ℕ) (d c : ℕ) → Bytes s → decodeFraction s ≡ found (d, c) → Fraction s d c
+fraction-is : (s : List ℕ) (d c : ℕ) → Below 256 s → decodeFraction s ≡ found (d, c) → Fraction s d c
 unfolding decodeFraction fractionBytes
 fraction-is [] d c h e =
     let both : _≡_ {A = ℕ × ℕ} (0, 0) (d, c) = cc in
@@ -145,7 +126,7 @@ fraction-is (b ∷ s) d c h e = first (readVarInt 63 (b ∷ s)) refl e
         let both : _≡_ {A = ℕ × ℕ} (suc m, k) (d, c) = cc in
         let ed = ap (λ (q : ℕ × ℕ). q .0) both in
         let ec = ap (λ (q : ℕ × ℕ). q .1) both in
-        let r = read-int-is (drop n (b ∷ s)) k (bytes-drop n (b ∷ s) h) g in
+        let r = read-int-is (drop n (b ∷ s)) k (below-drop 256 n (b ∷ s) h) g in
         rw (← ed, ← ec)
         (record {
           bytes = f ∙ ap (λ (t : List ℕ). signed true (suc m) ++ t) (r .1) ∙ sym (fraction-bytes m k);
@@ -226,15 +207,7 @@ filled-is (y ∷ m ∷ k ∷ u ∷ v ∷ w ∷ z ∷ l) d h e = absurd (omega ar
 
 -- ---- fields below a bound
 
-abbrev Small : List ℕ → Type 0
-Small l = (i : ℕ) → getD l i 0 < 16384
-
-append-small : (l r : List ℕ) → Small l → Small r → Small (l ++ r)
-append-small [] r h k i = k i
-append-small (v ∷ l) r h k zero = h 0
-append-small (v ∷ l) r h k (suc i) = append-small l r (λ j. h (suc j)) k i
-
-first-small : Small firstValues
+first-small : Below 16384 firstValues
 first-small zero = lit< tt
 first-small (suc zero) = lit< tt
 first-small (suc (suc zero)) = lit< tt
@@ -243,12 +216,12 @@ first-small (suc (suc (suc (suc zero)))) = lit< tt
 first-small (suc (suc (suc (suc (suc zero))))) = lit< tt
 first-small (suc (suc (suc (suc (suc (suc i)))))) = lit< tt
 
-filled-small : (l : List ℕ) → Small l → Small (filled l)
+filled-small : (l : List ℕ) → Below 16384 l → Below 16384 (filled l)
 unfolding filled
 filled-small l h =
-    append-small l (drop (length l) firstValues) h (λ i. rw (getD-drop (length l) firstValues i 0) (first-small (length l + i)))
+    below-append 16384 l (drop (length l) firstValues) h (below-drop 16384 (length l) firstValues first-small)
 
-fields-small : (v : List ℕ) (p d : ℕ) → Small v → Small (fieldList (fieldsFrom v p d))
+fields-small : (v : List ℕ) (p d : ℕ) → Below 16384 v → Below 16384 (fieldList (fieldsFrom v p d))
 fields-small v p d h zero = h 0
 fields-small v p d h (suc zero) = h 1
 fields-small v p d h (suc (suc zero)) = h 2
@@ -296,31 +269,31 @@ joined s o a l t d c es w p k q e =
           };
     }
 
-pub body-is : (s : List ℕ) (x : Body) → Bytes s → decodeBody s ≡ found x → Written s x
+pub body-is : (s : List ℕ) (x : Body) → Below 256 s → decodeBody s ≡ found x → Written s x
 unfolding decodeBody
 body-is s x h e = first (decodeOffset s) refl e
   where
-    fourth : (o : Offset) (a l t : List ℕ) → s ≡ offsetBytes o ++ a → WithinDay o → Split 6 a l t → isFieldCount (length l) ≡ true → Bytes t
+    fourth : (o : Offset) (a l t : List ℕ) → s ≡ offsetBytes o ++ a → WithinDay o → Split 6 a l t → isFieldCount (length l) ≡ true → Below 256 t
         → (q : Decoded (ℕ × ℕ)) → decodeFraction t ≡ q → afterFields o l q ≡ found x → Written s x
     fourth o a l t es w p k b (found y) f e =
         let ex : bodyIs o l (y .0) (y .1) ≡ x = cc in
         rw (← ex) (joined s o a l t (y .0) (y .1) es w p k (fraction-is t (y .0) (y .1) b f) f)
     fourth o a l t es w p k b nothing f e = absurd (let z : _≡_ {A = ℕ} 0 1 = cc in omega arith)
 
-    third : (o : Offset) (a l t : List ℕ) → s ≡ offsetBytes o ++ a → WithinDay o → Split 6 a l t → Bytes t → (k : Bool) → isFieldCount (length l) ≡ k
+    third : (o : Offset) (a l t : List ℕ) → s ≡ offsetBytes o ++ a → WithinDay o → Split 6 a l t → Below 256 t → (k : Bool) → isFieldCount (length l) ≡ k
         → cond k (afterFields o l (decodeFraction t)) nothing ≡ found x → Written s x
     third o a l t es w p b true k e = fourth o a l t es w p k b (decodeFraction t) refl e
     third o a l t es w p b false k e = absurd (let z : _≡_ {A = ℕ} 0 1 = cc in omega arith)
 
-    second : (o : Offset) (a : List ℕ) → s ≡ offsetBytes o ++ a → WithinDay o → Bytes a → (q : Decoded (List ℕ × List ℕ)) → decodeFields 6 a ≡ q
+    second : (o : Offset) (a : List ℕ) → s ≡ offsetBytes o ++ a → WithinDay o → Below 256 a → (q : Decoded (List ℕ × List ℕ)) → decodeFields 6 a ≡ q
         → afterOffset o q ≡ found x → Written s x
     second o a es w b (found y) f e =
         let p = fields-is 6 a (y .0) (y .1) b f in
-        third o a (y .0) (y .1) es w p (bytes-after a (varuints (y .0)) (y .1) (p .bytes) b) _ refl e
+        third o a (y .0) (y .1) es w p (below-after 256 a (varuints (y .0)) (y .1) (p .bytes) b) _ refl e
     second o a es w b nothing f e = absurd (let z : _≡_ {A = ℕ} 0 1 = cc in omega arith)
 
     first : (q : Decoded (Offset × List ℕ)) → decodeOffset s ≡ q → fromOffset q ≡ found x → Written s x
     first (found y) f e =
         let p = offset-is s (y .0) (y .1) h f in
-        second (y .0) (y .1) (p .0) (p .1) (bytes-after s (offsetBytes (y .0)) (y .1) (p .0) h) _ refl e
+        second (y .0) (y .1) (p .0) (p .1) (below-after 256 s (offsetBytes (y .0)) (y .1) (p .0) h) _ refl e
     first nothing f e = absurd (let z : _≡_ {A = ℕ} 0 1 = cc in omega arith)

@@ -6,6 +6,7 @@ use mathlib.Core.Logic.{inl, inr}
 use Prim.Native.Nat.{ℕ, _≤_}
 use borrow.Author.Tests.{eqb-true}
 use lib.Dec.{eqb}
+use Rattle.places.proofs.Values.{Below}
 use Rattle.ion.specs.Refusal.{bodyRefused}
 use Rattle.ion.specs.Pair.{wordIn}
 use Rattle.ion.specs.Word.{fieldsOf}
@@ -26,7 +27,7 @@ use Rattle.timestamp_binary.specs.Acceptable.{Acceptable}
 use Rattle.timestamp_binary.specs.BodyFor.{bodyFor}
 use Rattle.timestamp_binary.specs.Encodable.{Encodable}
 use Rattle.timestamp_binary.specs.PartsRead.{UtcInBounds, PartsRead}
-use Rattle.timestamp_binary.proofs.DecodeIs.{Bytes, body-is}
+use Rattle.timestamp_binary.proofs.DecodeIs.{body-is}
 use Rattle.timestamp_binary.proofs.UtcBody.{acceptable}
 use Rattle.timestamp_binary.proofs.LocalFields.{attosecondsFrom, local-valid, body-again}
 use Rattle.timestamp_binary.proofs.Values.{decode-value, body-read}
@@ -51,7 +52,7 @@ bounds-acceptable x b l h =
 
 -- ---- a body of n bytes in all that is decoded to x
 
-module _ (n : ℕ) (b : List ℕ) (x : Body) (bytes : Bytes b) (decoded : decodeBody b ≡ found x) where
+module _ (n : ℕ) (b : List ℕ) (x : Body) (bytes : Below 256 b) (decoded : decodeBody b ≡ found x) where
   module _ (q : Acceptable x) where
     local : Valid (localBy (x .offset) (x .utc)) (attosecondsFrom x)
     local = local-valid x (body-is b x bytes decoded .encodable) q

@@ -5,11 +5,13 @@ use mathlib.Core.Path.{_≡_, refl, sym, ap, _∙_}
 use Prim.Native.Nat.{suc, _+_, _*_, _-_, _^_, _≤_, _<_}
 use native.Mathlib.Numerals.{add-one}
 use native.Mathlib.Omega.{arith}
+use lib.Dec.{lit<}
 use lib.ListN.{length, drop, getD, drop-of-length-le}
 use lib.Seq.{drop-cons}
 use Rattle.places.specs.Places.{plain, valueFrom}
+use Rattle.places.proofs.Values.{value-above}
 use Rattle.ion.specs.Int.{intCount, bigEndian}
-use Rattle.binary.proofs.Ints.{value-above, read-shortest, read-longer, read-above, read-long}
+use Rattle.binary.proofs.Ints.{read-shortest, read-longer, read-above, read-long}
 use Rattle.binary.proofs.int.read_u64.Statement.{statement}
 use Rattle.binary.proofs.int.read_u64.Tie as tie
 
@@ -47,7 +49,7 @@ returns-2 c =
     let t = c .before in
     let s = t .before .before .before .before .args .s .now in
     let l = t .before .loop in
-    sym (read-above s (omega (arith, turn t, value-above (l .v * 256 + getD s (l .i) 0) (drop (suc (l .i)) s))))
+    sym (read-above s (omega (arith, turn t, value-above 256 (lit< tt) (l .v * 256 + getD s (l .i) 0) (drop (suc (l .i)) s))))
 
 mul-v : tie.Need-mul-v Inv-loop μ-loop
 mul-v c = search needs

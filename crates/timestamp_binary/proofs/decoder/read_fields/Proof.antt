@@ -7,10 +7,10 @@ use Prim.Native.Nat.{ℕ, _+_, _-_, _≤_}
 use native.Mathlib.Omega.{arith}
 use lib.ListN.{length, take, drop, length-set, length-drop, drop-of-length-le}
 use lib.Seq.{drop-length}
+use Rattle.places.proofs.Values.{below-drop}
 use Rattle.ion.specs.Decode.{Decoded, nothing, fieldFrom, decodeFields}
 use Rattle.ion.specs.declared.VarUIntRead.{VarUIntRead}
 use Rattle.binary.proofs.VarUInts.{read-is, read-within}
-use Rattle.timestamp_binary.proofs.DecodeIs.{bytes-drop}
 use Rattle.timestamp_binary.proofs.FieldSteps.{joined, joined-none, Rest, rest-more, field-more, field-none, field-end, field-last, fields-done, fields-none}
 use Rattle.timestamp_binary.proofs.decoder.read_fields.Statement.{statement}
 use Rattle.timestamp_binary.proofs.decoder.read_fields.Tie as tie
@@ -45,7 +45,7 @@ found c =
     let s = b .before .args .s .now in
     let e = sym (r .read-u64 .ensures) ∙ c .v .given .1 in
     let g = b .shared-slice-known .given in
-    (read-is 16383 (drop (l .next) s) _ _ (bytes-drop (l .next) s (λ i. g i .fits)) e .0, omega (arith, read-within 16383 (drop (l .next) s) _ _ e, length-drop (l .next) s, r .before .if1 .left))
+    (read-is 16383 (drop (l .next) s) _ _ (below-drop 256 (l .next) s (λ i. g i .fits)) e .0, omega (arith, read-within 16383 (drop (l .next) s) _ _ e, length-drop (l .next) s, r .before .if1 .left))
 
 cast-values : tie.Need-cast-values Inv-loop μ-loop
 cast-values c = omega (arith, found (c .before) .0)

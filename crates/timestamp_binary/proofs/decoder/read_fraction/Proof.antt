@@ -7,11 +7,11 @@ use Prim.Native.Nat.{ℕ, _+_, _≤_, _<_}
 use native.Mathlib.Omega.{arith}
 use lib.ListN.{length, drop, length-drop, drop-of-length-le}
 use lib.Seq.{drop-drop}
+use Rattle.places.proofs.Values.{below-drop}
 use Rattle.ion.specs.VarInt.{readVarInt}
 use Rattle.ion.specs.Int.{readInt}
 use Rattle.ion.specs.Decode.{nothing, coefficientFrom, fractionFrom, decodeFraction}
 use Rattle.binary.proofs.VarInts.{read-signed-is, read-signed-within}
-use Rattle.timestamp_binary.proofs.DecodeIs.{bytes-drop}
 use Rattle.timestamp_binary.proofs.decoder.read_fraction.Statement.{statement}
 use Rattle.timestamp_binary.proofs.decoder.read_fraction.Tie as tie
 
@@ -33,7 +33,7 @@ found c =
     let e = sym (r .read-i64 .ensures) ∙ c .negative .given .1 in
     let g = b .shared-slice-known .given in
     let t = drop (a .at) (a .s .now) in
-    (read-signed-is 63 t _ _ _ (bytes-drop (a .at) (a .s .now) (λ i. g i .fits)) e .0, omega (arith, read-signed-within 63 t _ _ _ e, length-drop (a .at) (a .s .now), r .before .if1 .left))
+    (read-signed-is 63 t _ _ _ (below-drop 256 (a .at) (a .s .now) (λ i. g i .fits)) e .0, omega (arith, read-signed-within 63 t _ _ _ e, length-drop (a .at) (a .s .now), r .before .if1 .left))
 
 -- there are bytes
 some : (t : List ℕ) → 0 < length t → decodeFraction t ≡ fractionFrom t (readVarInt 63 t)

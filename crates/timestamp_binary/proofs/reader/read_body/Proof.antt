@@ -1,14 +1,15 @@
 -- `reader::read_body` meets its contract. Assumes nothing.
 use borrow.Author.Needs.{needs}
 use mathlib.Core.Path.{_≡_, sym, ap, _∙_}
+use Rattle.places.proofs.Values.{Below}
 use Rattle.ion.specs.Decode.{found, decodeBody}
 use Rattle.timestamp_binary.specs.Parsed.{bodyIn}
-use Rattle.timestamp_binary.proofs.DecodeIs.{Bytes, body-is}
+use Rattle.timestamp_binary.proofs.DecodeIs.{body-is}
 use Rattle.timestamp_binary.proofs.PartsReadings.{parts-read, nothing-read}
 use Rattle.timestamp_binary.proofs.reader.read_body.Statement.{statement}
 use Rattle.timestamp_binary.proofs.reader.read_body.Tie as tie
 
-bytes : (c : tie.After-shared-slice-known) → Bytes (c .before .args .b .now)
+bytes : (c : tie.After-shared-slice-known) → Below 256 (c .before .args .b .now)
 bytes c i = c .shared-slice-known .given i .fits
 
 decoded : (c : tie.After-x) → decodeBody (c .before .before .before .before .args .b .now) ≡ found (c .x .given .0 .0)
