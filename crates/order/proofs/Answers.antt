@@ -1,5 +1,5 @@
 -- What is answered about two timestamps, by the number of their checks. Assumes nothing.
-use mathlib.Core.Path.{_≡_, ap}
+use mathlib.Core.Path.{_≡_}
 use mathlib.Core.Bool.{false}
 use Prim.Native.Nat.{ℕ, _/_, _%_, _^_}
 use native.Mathlib.Decide.{ℕ-discrete}
@@ -12,8 +12,7 @@ use Rattle.ion.specs.Accepted.{Accepted}
 use Rattle.ion.specs.Count.{countOf}
 use Rattle.ion.specs.Order.{numberOfTwo, orderOf, ionOrder, gapOf, cmpOf, eqOf, ionEqOf, ionCmpOf, distanceOf}
 use Rattle.ion.specs.declared.Timestamp.{Timestamp}
-use Rattle.ion.specs.declared.Built.{Built}
-use Rattle.timestamp.proofs.Accepts.{check-gives, check-accepts}
+use Rattle.timestamp.proofs.Accepts.{check-gives, check-zero}
 use Rattle.timestamp.proofs.Told.{if-zero, if-refused}
 use Rattle.order.specs.Answers.{ordered, compared, distanceOfCounts}
 
@@ -21,9 +20,7 @@ module _ (s t : Timestamp) where
   -- ---- both checks answer 0 where both timestamps are accepted, and nowhere else
 
   pub both-zero : Accepted s → Accepted t → numberOfTwo s t ≡ 0
-  both-zero p q =
-      let e : checkOf s .number ≡ 0 = ap (λ (b : Built). b .number) (check-accepts s p) in
-      simp (eq-eqb (checkOf s .number) 0 e) (ap (λ (b : Built). b .number) (check-accepts t q))
+  both-zero p q = simp (eq-eqb (checkOf s .number) 0 (check-zero s p)) (check-zero t q)
 
   pub both-accepted : numberOfTwo s t ≡ 0 → Accepted s × Accepted t
   both-accepted e = go (ℕ-discrete (checkOf s .number) 0)

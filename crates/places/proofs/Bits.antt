@@ -1,6 +1,6 @@
 -- Places of k bits: how many a number of so many bits has, and from its leading zeros. Assumes nothing.
 use mathlib.Core.Path.{_≡_, sym, ap, _∙_}
-use Prim.Native.Nat.{ℕ, zero, suc, _+_, _-_, _*_, _/_, _%_, _^_, _≤_, _<_}
+use Prim.Native.Nat.{ℕ, zero, suc, _+_, _-_, _*_, _/_, _^_, _≤_, _<_}
 use native.Mathlib.Nat.{pow-zero, pow-suc, mul-zero, mul-suc, mul-comm, zero-div, mod-lt, div-add-mod', one-le-pow}
 use native.Mathlib.Omega.{arith}
 use lib.Count.{leadingZeros, leading-length}

@@ -2,11 +2,11 @@
 use mathlib.Core.Path.{_≡_, refl, sym, ap, ap₂, _∙_}
 use mathlib.Core.List.{List, [], _∷_, _++_}
 use Prim.Native.Nat.{ℕ, zero, suc, _+_, _-_, _*_, _/_, _%_, _^_, _≤_, _<_}
-use native.Mathlib.Nat.{pow-zero, pow-suc, pow-succ', zero-add, add-zero, add-suc, one-le-pow, div-one, div-div-eq-div-mul, div-lt-iff-lt-mul, div-lt-self, div-le-self, div-add-mod', mod-lt, le-trans, lt-of-lt-of-le, lt-of-le-of-lt, mul-comm, mul-le-mul-left, mul-suc, pow-le-pow-right}
+use native.Mathlib.Nat.{pow-zero, pow-suc, pow-succ', zero-add, add-zero, add-suc, one-le-pow, div-one, div-div-eq-div-mul, div-lt-iff-lt-mul, div-lt-self, div-add-mod', mod-lt, lt-of-lt-of-le, lt-of-le-of-lt, mul-comm, mul-le-mul-left, mul-suc, pow-le-pow-right}
 use native.Mathlib.Decide.{decLe}
 use native.Mathlib.Omega.{arith}
 use lib.Arith.{mod-mul, digits-div, digits-mod}
-use lib.ListN.{length, take, drop, set, length-set, take-append-drop}
+use lib.ListN.{length, drop, set, length-set}
 use lib.Seq.{drop-at, drop-cons, getD-set-same, drop-set-lt}
 use Rattle.places.specs.Places.{placesOn, places, countIn, count, placeCount, valueFrom}
 

@@ -1,32 +1,29 @@
 -- What the writers of an accepted timestamp's bytes do, and the reader with what the value writer wrote. Assumes nothing.
-use mathlib.Core.Path.{_≡_, ap, _∙_}
+use mathlib.Core.Path.{ap, _∙_}
 use mathlib.Core.List.{List}
 use Prim.Native.Nat.{ℕ}
 use lib.ListN.{length}
 use Rattle.ion.specs.Check.{checkOf}
 use Rattle.ion.specs.Accepted.{Accepted}
 use Rattle.ion.specs.Value.{valueOf}
-use Rattle.ion.specs.declared.Built.{Built}
 use Rattle.ion.specs.declared.Timestamp.{Timestamp}
 use Rattle.ion.specs.declared.Written.{Written}
 use Rattle.output.proofs.Stores.{room-fits, put-fits, has-room, wrote-passed, put-passed, put-there}
-use Rattle.timestamp.proofs.Accepts.{check-accepts}
+use Rattle.timestamp.proofs.Accepts.{check-zero}
 use Rattle.timestamp_binary.proofs.Values as values
 use Rattle.theorem.specs.TwoStamps.{Writes, ReadsBack}
 
 module _ (s : Timestamp) (p : Accepted s) where
-  pub number-zero : checkOf s .number ≡ 0
-  number-zero = ap (λ (b : Built). b .number) (check-accepts s p)
-
   pub writes : (b : List ℕ) → Writes s b
   writes b d at h =
       let n = checkOf s .number in
-      (wrote-passed n d at b number-zero ∙ room-fits (length d) at (length b) h, put-passed n d at b number-zero ∙ put-fits d at b h)
+      let z = check-zero s p in
+      (wrote-passed n d at b z ∙ room-fits (length d) at (length b) h, put-passed n d at b z ∙ put-fits d at b h)
 
   pub reads-back : ReadsBack s
   reads-back d at r e =
       let v = valueOf s in
-      let room = has-room d at v (wrote-passed (checkOf s .number) d at v number-zero) e in
+      let room = has-room d at v (wrote-passed (checkOf s .number) d at v (check-zero s p)) e in
       let w = writes v d at room in
       let n = ap (λ (x : Written). x .written) (w .0) in
       rw (n, w .1, put-there d at v room) (values.value-back s p r)

@@ -17,18 +17,18 @@ use Rattle.ion.specs.Value.{valueOf}
 use Rattle.ion.specs.ReadValue.{readOf}
 use Rattle.ion.specs.declared.Timestamp.{Timestamp}
 use Rattle.ion.specs.declared.Read.{Read}
-use Rattle.timestamp.proofs.Accepts.{check-gives, check-accepts}
+use Rattle.timestamp.proofs.Accepts.{check-gives, check-accepts, check-zero}
 use Rattle.timestamp_binary.proofs.Values as values
 use Rattle.timestamp_binary.proofs.Readings.{value-apart, value-injective}
 use Rattle.theorem.specs.TwoStamps.{utcCount, signedSize, SignOf, TwoStamps}
 use Rattle.order.proofs.Instants.{count-is}
 use Rattle.theorem.proofs.Counts.{signed-gap, order-sign, size-is}
-use Rattle.theorem.proofs.Bytes.{number-zero, writes, reads-back}
+use Rattle.theorem.proofs.Bytes.{writes, reads-back}
 use Rattle.timestamp_text.proofs.Distinct.{text-inj}
 
 module _ (a b : Timestamp) (p : Accepted a) (q : Accepted b) where
   both : numberOfTwo a b ≡ 0
-  both = rw (number-zero a p, number-zero b q)
+  both = rw (check-zero a p, check-zero b q)
 
   -- the signed difference of the counts
   difference : pos (countOf a) -ℤ pos (countOf b) ≡ utcCount a -ℤ utcCount b

@@ -30,6 +30,9 @@ check-accepts s t =
     ∙ ap (sameAs s) (valid-builds v ∙ ap (λ (w : ℕ). accepted (pairIs w a)) (accepted-word t))
     ∙ simp (eq-eqb (wordIn s) (wordIn s) refl, eq-eqb a a refl)
 
+pub check-zero : (s : Timestamp) → Accepted s → checkOf s .number ≡ 0
+check-zero s t = ap (λ (b : Built). b .number) (check-accepts s t)
+
 -- what is built is compared with the pair
 same : (s : Timestamp) (n : ℕ) (t : Timestamp) → sameAs s (answer n t) .number ≡ 0 → (n ≡ 0) × (t ≡ s)
 same s n t h = at (ℕ-discrete n 0) (ℕ-discrete (wordIn t) (wordIn s)) (ℕ-discrete (t .attoseconds) (s .attoseconds))

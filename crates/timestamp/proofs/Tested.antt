@@ -1,6 +1,6 @@
 -- The tests of a word's fields, one after the other, decide whether they are valid, and so what the packed check answers.
 -- Assumes nothing.
-use mathlib.Core.Path.{_≡_, ap}
+use mathlib.Core.Path.{_≡_}
 use mathlib.Core.Bool.{Bool, false, _&&_, _||_}
 use Prim.Native.Nat.{ℕ, _%_, _^_, _≤_, _<_}
 use native.Mathlib.Omega.{arith}
@@ -15,10 +15,9 @@ use Rattle.ion.specs.Accepted.{Valid, dateIn}
 use Rattle.ion.specs.declared.Date.{Date}
 use Rattle.ion.specs.declared.Fields.{Fields}
 use Rattle.ion.specs.declared.Timestamp.{Timestamp}
-use Rattle.ion.specs.declared.Built.{Built}
 use Rattle.calendar.proofs.Dates.{is-date, date-is}
 use Rattle.timestamp.proofs.Decides.{Decides, le-decides, lt-decides, eq-decides, then-decides, _and_, below-decides}
-use Rattle.timestamp.proofs.Accepts.{check-gives, check-accepts}
+use Rattle.timestamp.proofs.Accepts.{check-gives, check-zero}
 
 -- ---- the fields
 
@@ -117,7 +116,7 @@ valid-decides f a =
 pub accepted-decides : (s : Timestamp) → wordIn s < 2 ^ 64 → wordIn s % 16 ≡ 0 → Decides (eqb (checkOf s .number) 0) (Valid (fieldsOf (wordIn s)) (s .attoseconds))
 accepted-decides s h z = (
   λ t. check-gives s (eqb-true (checkOf s .number) 0 t) .fields,
-  λ v. eq-eqb (checkOf s .number) 0 (ap (λ (b : Built). b .number) (check-accepts s (record { fields = v; reserved = z; fits = h }))),
+  λ v. eq-eqb (checkOf s .number) 0 (check-zero s (record { fields = v; reserved = z; fits = h })),
 )
 
 -- else it is refused

@@ -14,17 +14,15 @@ use Rattle.ion.specs.Calendar.{isLeap}
 use Rattle.ion.specs.Pair.{wordIn, pairIs}
 use Rattle.ion.specs.Word.{wordOf, fieldsOf}
 use Rattle.ion.specs.Fraction.{scale}
-use Rattle.ion.specs.Check.{checkOf}
 use Rattle.ion.specs.Accepted.{Accepted}
 use Rattle.ion.specs.Value.{offsetBytes, varuints, fieldList, fieldCount, fractionBytes, bodyFrom, bodyOf, valueOf}
 use Rattle.ion.specs.Decode.{found, decodeBody, pairFrom}
 use Rattle.ion.specs.ReadValue.{acceptedReading, isBodyOf, takenAs, readBody, readAfter, readLength, readOf}
 use Rattle.ion.specs.declared.Fields.{Fields}
-use Rattle.ion.specs.declared.Built.{Built}
 use Rattle.ion.specs.declared.Timestamp.{Timestamp}
 use Rattle.ion.proofs.Same.{same-refl}
 use Rattle.calendar.proofs.Months.{month-to-twelve, month-most}
-use Rattle.timestamp.proofs.Accepts.{check-accepts}
+use Rattle.timestamp.proofs.Accepts.{check-zero}
 use Rattle.timestamp.proofs.Valid.{accepted-word}
 use Rattle.timestamp_binary.specs.BodyFor.{bodyFor}
 use Rattle.timestamp_binary.proofs.DecodeBack.{body-back}
@@ -58,14 +56,11 @@ module _ (s : Timestamp) (p : Accepted s) where
   unfolding bodyOf
   decode-value = body-back (bodyFor (fieldsOf (wordIn s)) (s .attoseconds)) (encodable (fieldsOf (wordIn s)) (s .attoseconds) (p .fields))
 
-  number-zero : checkOf s .number ≡ 0
-  number-zero = ap (λ (b : Built). b .number) (check-accepts s p)
-
   pub body-read : (n : ℕ) → readBody n (bodyOf s) ≡ acceptedReading s n
   unfolding readBody isBodyOf
   body-read n =
       ap (takenAs n (bodyOf s)) decode-value
-      ∙ rw pair-back (rw (number-zero, same-refl (bodyOf s)))
+      ∙ rw pair-back (rw (check-zero s p, same-refl (bodyOf s)))
 
   -- no body is longer than 18 bytes
   pub body-length : length (bodyOf s) ≤ 18
