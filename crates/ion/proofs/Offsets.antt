@@ -36,6 +36,10 @@ raised z h = omega (arith, natAbs-parts z, add-parts z (pos 1440), apart (z +ℤ
 pub raw-below : (z : ℤ) → natAbs z < 1440 → (0 < 1440 plus z) × (1440 plus z < 2880)
 raw-below z h = omega (arith, natAbs-parts z, plus-parts 1440 z (omega (arith, natAbs-parts z)))
 
+pub raw-lt : (o : Offset) → WithinDay o → rawOf o .0 < 2880
+raw-lt Unknown h = omega arith
+raw-lt (Known m) h = raw-below (m .0) h .1
+
 -- an offset through its raw number and back
 pub raw-and-back : (o : Offset) → WithinDay o → offsetOf (rawOf o) ≡ o
 raw-and-back Unknown h = refl

@@ -6,7 +6,7 @@ use native.Mathlib.Omega.{arith}
 use lib.Dec.{leb}
 use lib.IntN.{ℤ, natAbs}
 use borrow.Author.Tests.{lt-ltb, le-ltb, lt-leb, ltb-false, leb-false, ltb-true, leb-true, le-leb, not-false}
-use Rattle.ion.specs.Offset.{WithinDay, isOffset, rawOf}
+use Rattle.ion.specs.Offset.{WithinDay, isOffset}
 use Rattle.ion.specs.Build.{precisionNumber, ranges, outside, offsetIs, isYear}
 use Rattle.ion.specs.Accepted.{InBounds}
 use Rattle.ion.specs.declared.BuilderFields.{BuilderFields}
@@ -14,9 +14,6 @@ use Rattle.ion.specs.declared.BuilderOffset.{BuilderOffset}
 use Rattle.ion.specs.declared.BuilderOffset.the-variants.{Unknown, FromLocalFields, FromUtcFields}
 use Rattle.ion.specs.declared.TimestampPrecision.{TimestampPrecision}
 use Rattle.ion.specs.declared.TimestampPrecision.the-variants.{Year, Month, Day, HourAndMinute, Second}
-use Rattle.ion.specs.declared.offset.Offset.{Offset}
-use Rattle.ion.specs.declared.offset.Offset.the-variants as offset
-use Rattle.ion.proofs.Offsets.{raw-below}
 use Rattle.timestamp.proofs.Checks.{AllPass}
 
 offset-is : (z : ℤ) → not (isOffset z) ≡ false → natAbs z < 1440
@@ -67,11 +64,6 @@ precision-le Month = omega arith
 precision-le Day = omega arith
 precision-le HourAndMinute = omega arith
 precision-le Second = omega arith
-
--- the packed word's number of an offset of less than a day
-pub raw-lt : (o : Offset) → WithinDay o → rawOf o .0 < 2880
-raw-lt offset.Unknown h = omega arith
-raw-lt (offset.Known m) h = raw-below (m .0) h .1
 
 -- a local year, both ways
 pub year-is : (y : ℕ) → isYear y ≡ true → (1 ≤ y) × (y ≤ 9999)

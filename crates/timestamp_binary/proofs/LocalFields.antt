@@ -4,7 +4,7 @@ use Prim.Native.Nat.{ℕ, _*_, _/_, _^_, _≤_, _<_, min}
 use native.Mathlib.Nat.{mul-mod-left, mul-div-cancel}
 use native.Mathlib.Omega.{arith}
 use Rattle.integers.proofs.Parts.{down}
-use Rattle.ion.specs.Offset.{WithinDay, rawIs, offsetOf, rawOf}
+use Rattle.ion.specs.Offset.{rawIs, offsetOf}
 use Rattle.ion.specs.Shift.{IsDateTime, minuteNumber}
 use Rattle.ion.specs.Fraction.{scale}
 use Rattle.ion.specs.Accepted.{Valid, timeIn}
@@ -16,7 +16,7 @@ use Rattle.ion.specs.declared.Body.{Body}
 use Rattle.ion.specs.declared.offset.OffsetMinutes.{OffsetMinutes}
 use Rattle.ion.specs.declared.offset.Offset.{Offset}
 use Rattle.ion.specs.declared.offset.Offset.the-variants.{Unknown, Known}
-use Rattle.ion.proofs.Offsets.{raw-and-back, raw-below}
+use Rattle.ion.proofs.Offsets.{raw-and-back, raw-lt}
 use Rattle.calendar.proofs.Shifts.{shifted-is, shift-back}
 use Rattle.calendar.proofs.Room.{moved-room}
 use Rattle.fraction.proofs.Caps.{scaled-low}
@@ -24,10 +24,6 @@ use Rattle.fraction.proofs.Scales.{scale-pos}
 use Rattle.timestamp_binary.specs.Encodable.{Encodable}
 use Rattle.timestamp_binary.specs.Acceptable.{Acceptable}
 use Rattle.timestamp_binary.specs.BodyFor.{bodyFor}
-
-raw-most : (o : Offset) → WithinDay o → rawOf o .0 < 2880
-raw-most Unknown w = omega arith
-raw-most (Known m) w = raw-below (m .0) w .1
 
 -- the attoseconds of the parts
 abbrev pub attosecondsFrom : Body → ℕ
@@ -98,7 +94,7 @@ module _ (x : Body) (p : Encodable x) (q : Acceptable x) where
           second = q .second;
           precision = p .precise;
           digits = q .digits;
-          offset = raw-most (Known m) (rw e at w);
+          offset = raw-lt (Known m) (rw e at w);
           attoseconds = attoseconds-low;
           multiple = mul-mod-left (x .coefficient) (scale (x .utc .digits));
           no-month = λ h. absurd (not-coarse (omega arith));
