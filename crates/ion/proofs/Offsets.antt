@@ -7,7 +7,8 @@ use borrow.Author.Tests.{ne-eqb}
 use mir.Syntax.{w32}
 use mir.Val.{SFits}
 use Rattle.integers.specs.Floor.{_plus_}
-use Rattle.integers.proofs.Parts.{Gives, apart, parts-eq, abs-fits, natAbs-parts, add-parts, neg-parts, sub-parts, plus-parts}
+use Rattle.integers.proofs.Parts.{Gives, apart, parts-eq, abs-fits, natAbs-parts, add-parts, sub-parts, plus-parts}
+use Rattle.integers.proofs.Signs.{size-neg}
 use Rattle.ion.specs.Offset.{minutesIs, rawIs, rawOf, offsetOf, WithinDay}
 use Rattle.ion.specs.declared.offset.RawOffset.{RawOffset}
 use Rattle.ion.specs.declared.offset.Offset.{Offset}
@@ -20,9 +21,6 @@ offset-fits z h = abs-fits w32 z (omega arith)
 
 pub sum-fits : (a b : ℤ) → natAbs a < 2 ^ 16 → natAbs b < 2 ^ 16 → SFits w32 (a +ℤ b)
 sum-fits a b h k = abs-fits w32 (a +ℤ b) (omega (arith, natAbs-parts a, natAbs-parts b, natAbs-parts (a +ℤ b), add-parts a b, apart (a +ℤ b)))
-
-pub size-neg : (z : ℤ) → natAbs (negℤ z) ≡ natAbs z
-size-neg z = omega (arith, natAbs-parts z, natAbs-parts (negℤ z), neg-parts z)
 
 pub difference-fits : (a b : ℤ) → natAbs a < 2 ^ 16 → natAbs b < 2 ^ 16 → SFits w32 (a -ℤ b)
 difference-fits a b h k = sum-fits a (negℤ b) h (omega (arith, size-neg b))

@@ -3,7 +3,7 @@ use mathlib.Core.Path.{_≡_, refl, sym, ap, _∙_}
 use Prim.Native.Nat.{ℕ, _≤_, _<_}
 use native.Mathlib.Omega.{arith}
 use lib.IntN.{ℤ, negℤ, natAbs}
-use Rattle.integers.proofs.Parts.{natAbs-parts, neg-parts}
+use Rattle.integers.proofs.Signs.{size-neg}
 use Rattle.ion.specs.Shift.{IsDateTime}
 use Rattle.ion.specs.Offset.{WithinDay, rawOf, offsetOf}
 use Rattle.ion.specs.Word.{InRange}
@@ -20,7 +20,7 @@ use Rattle.timestamp.proofs.Valid.{valid-time, valid-offset}
 
 -- the opposite of less than a day is less than a day
 pub negated-within : (z : ℤ) → natAbs z < 1440 → natAbs (negℤ z) < 1440
-negated-within z h = omega (arith, natAbs-parts z, natAbs-parts (negℤ z), neg-parts z)
+negated-within z h = omega (arith, size-neg z)
 
 -- what the offset leaves of the fields, and what it makes of the others
 pub record IsUtc (f g : Fields) : Type 0 where

@@ -1,13 +1,13 @@
--- The text of a known offset by its sign, and its minutes without the sign. Assumes nothing.
+-- The text of a known offset by its sign. Assumes nothing.
 use mathlib.Core.Path.{_≡_, refl}
 use mathlib.Core.Bool.{true, false, true≢false, false≢true}
 use mathlib.Core.List.{_∷_}
 use Prim.Native.Char.{code}
 use Prim.Native.Nat.{zero, suc}
 use native.Mathlib.Omega.{arith}
-use lib.IntN.{ℤ, pos, negsuc, natAbs, _-ℤ_}
+use lib.IntN.{ℤ, pos, negsuc, natAbs}
 use lib.Signed.{ltZ}
-use Rattle.integers.proofs.Parts.{Gives, apart, natAbs-parts, sub-parts, lt-parts, ge-parts}
+use Rattle.integers.proofs.Parts.{lt-parts, ge-parts}
 use Rattle.ion.specs.Text.{clockText, zeroText, minutesText}
 
 pub minutes-below : (z : ℤ) → ltZ z (pos 0) ≡ true → minutesText z ≡ code "-" ∷ clockText (natAbs z)
@@ -26,11 +26,3 @@ unfolding minutesText
 minutes-none (pos zero) h k = refl
 minutes-none (pos (suc n)) h k = absurd (omega (arith, ge-parts (pos 0) (pos (suc n)) k))
 minutes-none (negsuc n) h k = absurd (true≢false h)
-
-pub negated-is : (z : ℤ) → ltZ z (pos 0) ≡ true → Gives (pos 0 -ℤ z) (natAbs z)
-negated-is z h =
-    let m = pos 0 -ℤ z in
-    omega (arith, natAbs-parts z, lt-parts z (pos 0) h, sub-parts (pos 0) z, apart z, apart m)
-
-pub itself-is : (z : ℤ) → ltZ (pos 0) z ≡ true → Gives z (natAbs z)
-itself-is z h = omega (arith, natAbs-parts z, lt-parts (pos 0) z h, apart z)

@@ -1,14 +1,13 @@
 -- `var_int::parts_of` meets its contract: below 0 the number one nearer to 0 is negated, so that the lowest is too. Assumes nothing.
 use mathlib.Core.Path.{_≡_, refl}
 use mathlib.Core.Bool.{true, false}
-use Prim.Native.Nat.{_-_, _^_, _≤_, _<_}
 use native.Mathlib.Omega.{arith}
-use lib.IntN.{ℤ, pos, negsuc, natAbs, _+ℤ_, _-ℤ_}
+use lib.IntN.{ℤ, pos, negsuc}
 use lib.Signed.{ltZ}
 use mir.Syntax.{w64}
-use mir.Val.{SFits}
 use mir.Facts.{toZ-ofZ}
-use Rattle.integers.proofs.Parts.{Gives, to-unsigned, may-cast, gives-fits, apart, natAbs-parts, add-parts, sub-parts, lt-parts, ge-parts, parts-fit, fit-parts}
+use Rattle.integers.proofs.Parts.{to-unsigned, may-cast, gives-fits, lt-parts, ge-parts}
+use Rattle.integers.proofs.Signs.{size-most, size-some, itself-is, nearer-fits, nearer-is}
 use Rattle.ion.specs.VarInt.{isNegative}
 use Rattle.binary.proofs.var_int.parts_of.Statement.{statement}
 use Rattle.binary.proofs.var_int.parts_of.Tie as tie
@@ -20,26 +19,6 @@ sign-below (negsuc n) h = refl
 sign-above : (z : ℤ) → ltZ z (pos 0) ≡ false → false ≡ isNegative z
 sign-above (pos n) h = refl
 sign-above (negsuc n) h = absurd (omega (arith, ge-parts (negsuc n) (pos 0) h))
-
-nearer-fits : (z : ℤ) → SFits w64 z → ltZ z (pos 0) ≡ true → SFits w64 (z +ℤ pos 1)
-nearer-fits z f h =
-    let s = z +ℤ pos 1 in
-    parts-fit w64 s (omega (arith, add-parts z (pos 1), lt-parts z (pos 0) h, apart s)) (omega (arith, add-parts z (pos 1), lt-parts z (pos 0) h, apart s, fit-parts w64 z f))
-
-turned : (z : ℤ) → ltZ z (pos 0) ≡ true → Gives (pos 0 -ℤ (z +ℤ pos 1)) (natAbs z - 1)
-turned z h =
-    let s = z +ℤ pos 1 in
-    omega (arith, add-parts z (pos 1), lt-parts z (pos 0) h, apart s, apart z, sub-parts (pos 0) s, apart (pos 0 -ℤ s), natAbs-parts z)
-
-kept : (z : ℤ) → ltZ z (pos 0) ≡ false → Gives z (natAbs z)
-kept z h = omega (arith, ge-parts z (pos 0) h, apart z, natAbs-parts z)
-
--- the size of a number of 64 bits, and that it is not 0 below 0
-size : (z : ℤ) → SFits w64 z → natAbs z ≤ 2 ^ 63
-size z f = omega (arith, natAbs-parts z, apart z, fit-parts w64 z f)
-
-some : (z : ℤ) → ltZ z (pos 0) ≡ true → 0 < natAbs z
-some z h = omega (arith, natAbs-parts z, lt-parts z (pos 0) h)
 
 abbrev value : tie.Then1 → ℤ
 value c = c .before .args .value
@@ -53,40 +32,40 @@ below c =
 add-t3 : tie.Need-add-t3
 add-t3 c =
     let f = c .before .fits .value in
-    simp toZ-ofZ (nearer-fits (value c) f (below c))
+    simp toZ-ofZ (nearer-fits w64 (value c) f (below c))
 
 sub-t4 : tie.Need-sub-t4
 sub-t4 c =
     let f = c .before .fits .value in
-    let g = nearer-fits (value c) f (below c) in
-    simp toZ-ofZ (gives-fits w64 (turned (value c) (below c)) (omega (arith, size (value c) f, some (value c) (below c))))
+    let g = nearer-fits w64 (value c) f (below c) in
+    simp toZ-ofZ (gives-fits w64 (nearer-is (value c) (below c)) (omega (arith, size-most w64 (value c) f, size-some (value c) (below c))))
 
 cast-t5 : tie.Need-cast-t5
 cast-t5 c =
     let f = c .before .fits .value in
-    let g = nearer-fits (value c) f (below c) in
-    let k = gives-fits w64 (turned (value c) (below c)) (omega (arith, size (value c) f, some (value c) (below c))) in
-    simp toZ-ofZ (may-cast w64 (turned (value c) (below c)) (omega (arith, size (value c) f)))
+    let g = nearer-fits w64 (value c) f (below c) in
+    let k = gives-fits w64 (nearer-is (value c) (below c)) (omega (arith, size-most w64 (value c) f, size-some (value c) (below c))) in
+    simp toZ-ofZ (may-cast w64 (nearer-is (value c) (below c)) (omega (arith, size-most w64 (value c) f)))
 
 add-t6 : tie.Need-add-t6
 add-t6 c =
     let f = c .before .fits .value in
-    let g = nearer-fits (value c) f (below c) in
-    let k = gives-fits w64 (turned (value c) (below c)) (omega (arith, size (value c) f, some (value c) (below c))) in
-    simp toZ-ofZ (omega (arith, to-unsigned (turned (value c) (below c)), size (value c) f))
+    let g = nearer-fits w64 (value c) f (below c) in
+    let k = gives-fits w64 (nearer-is (value c) (below c)) (omega (arith, size-most w64 (value c) f, size-some (value c) (below c))) in
+    simp toZ-ofZ (omega (arith, to-unsigned (nearer-is (value c) (below c)), size-most w64 (value c) f))
 
 returns : tie.Need-returns
 returns c =
     let f = c .before .fits .value in
-    let g = nearer-fits (value c) f (below c) in
-    let k = gives-fits w64 (turned (value c) (below c)) (omega (arith, size (value c) f, some (value c) (below c))) in
-    simp toZ-ofZ (sign-below (value c) (below c), omega (arith, to-unsigned (turned (value c) (below c)), some (value c) (below c)))
+    let g = nearer-fits w64 (value c) f (below c) in
+    let k = gives-fits w64 (nearer-is (value c) (below c)) (omega (arith, size-most w64 (value c) f, size-some (value c) (below c))) in
+    simp toZ-ofZ (sign-below (value c) (below c), omega (arith, to-unsigned (nearer-is (value c) (below c)), size-some (value c) (below c)))
 
 cast-t7 : tie.Need-cast-t7
 cast-t7 c =
     let f = c .before .fits .value in
     let h = c .if1 .left in
-    simp toZ-ofZ (may-cast w64 (kept (c .before .args .value) (simp toZ-ofZ at h)) (omega (arith, size (c .before .args .value) f)))
+    simp toZ-ofZ (may-cast w64 (itself-is (c .before .args .value) (simp toZ-ofZ at h)) (omega (arith, size-most w64 (c .before .args .value) f)))
 
 returns-2 : tie.Need-returns-2
 returns-2 c =

@@ -10,10 +10,11 @@ use mir.Syntax.{w32}
 use mir.Val.{SFits}
 use mir.Facts.{toZ-ofZ}
 use Rattle.integers.proofs.Parts.{Gives, may-cast, to-unsigned, gives-fits}
+use Rattle.integers.proofs.Signs.{above-is, negated-is}
 use Rattle.ion.proofs.Offsets.{offset-fits}
 use Rattle.output.proofs.Runs.{run-two}
 use Rattle.timestamp_text.proofs.Lengths.{length-clock}
-use Rattle.timestamp_text.proofs.Signs.{minutes-below, minutes-above, minutes-none, negated-is, itself-is}
+use Rattle.timestamp_text.proofs.Signs.{minutes-below, minutes-above, minutes-none}
 use Rattle.timestamp_text.proofs.offset.put_minutes.Statement.{statement}
 use Rattle.timestamp_text.proofs.offset.put_minutes.Tie as tie
 
@@ -82,7 +83,7 @@ cast-put-clock-2 c =
     let t = c .before .before .before .before .before in
     let m = t .before .before in
     let f = fits m in
-    simp toZ-ofZ (may-cast w32 (itself-is (read m) (east t)) (omega (arith, small m)))
+    simp toZ-ofZ (may-cast w32 (above-is (read m) (east t)) (omega (arith, small m)))
 
 put-clock-requires-2 : tie.Need-put-clock-requires-2
 put-clock-requires-2 c κs =
