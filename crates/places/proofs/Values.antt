@@ -5,7 +5,7 @@ use Prim.Native.Nat.{ℕ, zero, suc, _+_, _*_, _^_, _≤_, _<_}
 use native.Mathlib.Nat.{pow-zero, pow-succ', add-zero, zero-add, mul-assoc, mul-one, one-le-pow, le-of-eq, le-trans, lt-of-lt-of-le, mul-le-mul-right, le-add-right, le-mul-of-pos-right}
 use native.Mathlib.Omega.{arith}
 use lib.Arith.{digits-lt, digits-div, digits-mod}
-use lib.ListN.{length, drop, getD}
+use lib.ListN.{length, take, drop, getD}
 use lib.Seq.{getD-drop, getD-append-add}
 use Rattle.places.specs.Places.{plain, placesOn, places, valueFrom}
 
@@ -28,11 +28,25 @@ module _ (b : ℕ) where
   pub below-drop : (n : ℕ) (s : List ℕ) → Below s → Below (drop n s)
   below-drop n s h i = rw (getD-drop n s i 0) (h (n + i))
 
+  pub below-take : (n : ℕ) (s : List ℕ) → 0 < b → Below s → Below (take n s)
+  below-take zero s h k = below-none h
+  below-take (suc n) [] h k = k
+  below-take (suc n) (d ∷ s) h k = below-cons d (take n s) (k 0) (below-take n s h (λ i. k (suc i)))
+
   -- what follows the list a
   pub below-after : (s a t : List ℕ) → s ≡ a ++ t → Below s → Below t
   below-after s a t e h i =
       let g : getD s (length a + i) 0 ≡ getD t i 0 = ap (λ (l : List ℕ). getD l (length a + i) 0) e ∙ getD-append-add a t i 0 in
       rw g at (h (length a + i))
+
+  -- the same, number by number
+  abbrev pub Each : List ℕ → Type 0
+  Each [] = 0 < b
+  Each (d ∷ s) = (d < b) × Each s
+
+  pub each-below : (s : List ℕ) → Each s → Below s
+  each-below [] h = below-none h
+  each-below (d ∷ s) h = below-cons d s (h .0) (each-below s (h .1))
 
   -- a place in front of r is the lowest of one place more
   pub place-more : (k v d : ℕ) (r : List ℕ) → d < b → placesOn b plain k v (d ∷ r) ≡ placesOn b plain (suc k) (v * b + d) r

@@ -7,8 +7,9 @@ use native.Mathlib.Omega.{arith}
 use borrow.Author.Tests.{lt-ltb, ne-eqb}
 use lib.Dec.{lit≤, lit<}
 use lib.IntN.{ℤ, pos, negsuc, natAbs}
-use lib.ListN.{length, take, drop, getD, length-append}
+use lib.ListN.{length, take, drop, length-append}
 use lib.Seq.{drop-at}
+use Rattle.places.proofs.Values.{Below, below-take}
 use Rattle.ion.specs.VarUInt.{varuint, groupCount, readVarUInt}
 use Rattle.ion.specs.VarInt.{signed, varint, isNegative, readVarInt}
 use Rattle.ion.specs.Int.{int, readInt}
@@ -49,7 +50,7 @@ offset-back (Known m) r h =
 
 -- ---- the fields
 
-pub fields-back : (n : ℕ) (l r : List ℕ) → ((i : ℕ) → getD l i 0 < 16384) → length l ≤ n → (length l < n → r ≡ []) → decodeFields n (varuints l ++ r) ≡ found (l, r)
+pub fields-back : (n : ℕ) (l r : List ℕ) → Below 16384 l → length l ≤ n → (length l < n → r ≡ []) → decodeFields n (varuints l ++ r) ≡ found (l, r)
 unfolding varuints decodeFields
 fields-back zero [] r h k z = refl
 fields-back zero (v ∷ l) r h k z = absurd (omega arith)
@@ -109,12 +110,6 @@ record Told (u : Fields) (l : List ℕ) (p : ℕ) : Type 0 where
   most : length l ≤ 6
   fewer : length l < 6 → p < 4
 
-take-small : (k n : ℕ) (l : List ℕ) → 0 < k → ((i : ℕ) → getD l i 0 < k) → (i : ℕ) → getD (take n l) i 0 < k
-take-small k zero l h b i = h
-take-small k (suc n) [] h b i = h
-take-small k (suc n) (v ∷ l) h b zero = b zero
-take-small k (suc n) (v ∷ l) h b (suc i) = take-small k n l h (λ j. b (suc j)) i
-
 pub no-fraction : (d c : ℕ) → d ≡ 0 → fractionBytes d c ≡ []
 unfolding fractionBytes
 no-fraction d c e = rw e
@@ -171,8 +166,8 @@ module _ (x : Body) (p : Encodable x) where
   told : Told (x .utc) (here (x .utc)) (x .utc .precision)
   told = told-at (x .utc .precision) refl
 
-  here-small : (i : ℕ) → getD (here (x .utc)) i 0 < 16384
-  here-small i = take-small 16384 (fieldCount (x .utc .precision)) (fieldList (x .utc)) (lit< tt) (p .small) i
+  here-small : Below 16384 (here (x .utc))
+  here-small = below-take 16384 (fieldCount (x .utc .precision)) (fieldList (x .utc)) (lit< tt) (p .small)
 
   -- a body is read back as its parts
   pub body-back : decodeBody (bodyFrom (x .offset) (x .utc) (x .coefficient)) ≡ found x

@@ -7,7 +7,7 @@ use native.Mathlib.Omega.{arith}
 use borrow.Author.Tests.{ltb-true}
 use lib.Dec.{ltb, lit<}
 use lib.ListN.{length, take, drop}
-use Rattle.places.proofs.Values.{Below, below-none, below-cons, below-append, below-drop, below-after}
+use Rattle.places.proofs.Values.{Below, below-none, below-cons, below-append, below-drop, below-after, each-below}
 use Rattle.ion.specs.VarUInt.{varuint, readVarUInt}
 use Rattle.ion.specs.VarInt.{signed, varint, readVarInt}
 use Rattle.ion.specs.Int.{int, readInt}
@@ -208,13 +208,7 @@ filled-is (y ∷ m ∷ k ∷ u ∷ v ∷ w ∷ z ∷ l) d h e = absurd (omega ar
 -- ---- fields below a bound
 
 first-small : Below 16384 firstValues
-first-small zero = lit< tt
-first-small (suc zero) = lit< tt
-first-small (suc (suc zero)) = lit< tt
-first-small (suc (suc (suc zero))) = lit< tt
-first-small (suc (suc (suc (suc zero)))) = lit< tt
-first-small (suc (suc (suc (suc (suc zero))))) = lit< tt
-first-small (suc (suc (suc (suc (suc (suc i)))))) = lit< tt
+first-small = each-below 16384 firstValues (lit< tt, (lit< tt, (lit< tt, (lit< tt, (lit< tt, (lit< tt, lit< tt))))))
 
 filled-small : (l : List ℕ) → Below 16384 l → Below 16384 (filled l)
 unfolding filled
@@ -222,13 +216,7 @@ filled-small l h =
     below-append 16384 l (drop (length l) firstValues) h (below-drop 16384 (length l) firstValues first-small)
 
 fields-small : (v : List ℕ) (p d : ℕ) → Below 16384 v → Below 16384 (fieldList (fieldsFrom v p d))
-fields-small v p d h zero = h 0
-fields-small v p d h (suc zero) = h 1
-fields-small v p d h (suc (suc zero)) = h 2
-fields-small v p d h (suc (suc (suc zero))) = h 3
-fields-small v p d h (suc (suc (suc (suc zero)))) = h 4
-fields-small v p d h (suc (suc (suc (suc (suc zero))))) = h 5
-fields-small v p d h (suc (suc (suc (suc (suc (suc i)))))) = lit< tt
+fields-small v p d h = each-below 16384 (fieldList (fieldsFrom v p d)) (h 0, (h 1, (h 2, (h 3, (h 4, (h 5, lit< tt))))))
 
 -- ---- so what is read is the body of parts that their bytes tell
 

@@ -5,9 +5,10 @@ use mathlib.Core.List.{List, [], _∷_, _++_}
 use Prim.Native.Nat.{ℕ, zero, suc, _+_, _/_, _%_, _^_, _≤_, _<_}
 use native.Mathlib.Omega.{arith}
 use borrow.Author.Tests.{le-leb, lt-leb}
-use lib.Dec.{leb}
+use lib.Dec.{leb, lit<}
 use lib.IntN.{natAbs}
-use lib.ListN.{length, take, getD, length-append}
+use lib.ListN.{length, take, length-append, length-take}
+use Rattle.places.proofs.Values.{Below, below-take}
 use Rattle.ion.specs.VarUInt.{groups, varuint, groupCount}
 use Rattle.ion.specs.VarInt.{signed, varint, isNegative}
 use Rattle.ion.specs.Int.{int}
@@ -41,28 +42,17 @@ two-bytes : (v : ℕ) → v < 16384 → length (varuint v) ≤ 2
 two-bytes v h = omega (arith, length-varuint v, count-shortest 1 v (omega arith))
 
 -- a byte for each number below 128
-short-length : (l : List ℕ) → ((i : ℕ) → getD l i 0 < 128) → length (varuints l) ≤ length l
+short-length : (l : List ℕ) → Below 128 l → length (varuints l) ≤ length l
 unfolding varuints
 short-length [] h = omega arith
 short-length (v ∷ l) h = omega (arith, length-append (varuint v) (varuints l), one-byte v (h 0), short-length l (λ i. h (suc i)))
 
-take-short : (n : ℕ) (l : List ℕ) → ((i : ℕ) → getD l i 0 < 128) → (i : ℕ) → getD (take n l) i 0 < 128
-take-short zero l h i = omega arith
-take-short (suc n) [] h i = omega arith
-take-short (suc n) (v ∷ l) h zero = h 0
-take-short (suc n) (v ∷ l) h (suc i) = take-short n l (λ j. h (suc j)) i
-
-take-length-le : (n : ℕ) (l : List ℕ) → length (take n l) ≤ length l
-take-length-le zero l = omega arith
-take-length-le (suc n) [] = omega arith
-take-length-le (suc n) (v ∷ l) = omega (arith, take-length-le n l)
-
 -- a year of two bytes at most, and the fields after it
-pub fields-length : (n y : ℕ) (l : List ℕ) → y < 16384 → ((i : ℕ) → getD l i 0 < 128) → length (varuints (take n (y ∷ l))) ≤ 2 + length l
+pub fields-length : (n y : ℕ) (l : List ℕ) → y < 16384 → Below 128 l → length (varuints (take n (y ∷ l))) ≤ 2 + length l
 unfolding varuints
 fields-length zero y l h k = omega arith
 fields-length (suc n) y l h k =
-    omega (arith, length-append (varuint y) (varuints (take n l)), two-bytes y h, short-length (take n l) (take-short n l k), take-length-le n l)
+    omega (arith, length-append (varuint y) (varuints (take n l)), two-bytes y h, short-length (take n l) (below-take 128 n l (lit< tt) k), length-take n l)
 
 pub fraction-length : (d c : ℕ) → d ≤ 18 → c < 10 ^ 18 → length (fractionBytes d c) ≤ 9
 unfolding fractionBytes

@@ -1,19 +1,19 @@
 -- The body of an accepted timestamp: its bytes tell its parts, and its parts give its fields back. Assumes nothing.
 use mathlib.Core.Path.{_≡_, refl, sym, ap, _∙_}
 use mathlib.Core.Bool.{Bool, true, false, cond}
-use Prim.Native.Nat.{ℕ, zero, suc, _*_, _/_, _^_, _≤_, _<_}
+use mathlib.Core.List.{[], _∷_}
+use Prim.Native.Nat.{ℕ, _*_, _/_, _^_, _≤_, _<_}
 use native.Mathlib.Nat.{div-add-mod', div-le-self}
 use native.Mathlib.Omega.{arith}
 use borrow.Author.Tests.{eqb-true}
-use lib.Dec.{eqb, lit<}
-use lib.IntN.{pos, natAbs, negℤ, _-ℤ_, negℤ-negℤ}
-use lib.ListN.{getD}
-use Rattle.integers.proofs.Parts.{down, neg-parts, natAbs-parts}
-use Rattle.ion.specs.Calendar.{isLeap}
+use lib.Dec.{eqb, lit≤}
+use lib.IntN.{pos, natAbs, negℤ, _-ℤ_}
+use Rattle.integers.proofs.Parts.{down}
+use Rattle.places.proofs.Values.{Below, below-cons, each-below}
 use Rattle.ion.specs.Offset.{rawIs, minutesIs, offsetOf, rawOf}
 use Rattle.ion.specs.Shift.{IsDateTime, minuteNumber, shifted}
 use Rattle.ion.specs.Fraction.{scale}
-use Rattle.ion.specs.Accepted.{Valid, timeIn}
+use Rattle.ion.specs.Accepted.{Valid, dateIn, timeIn}
 use Rattle.ion.specs.Utc.{withTime, utcBy, utcFields}
 use Rattle.ion.specs.Value.{fieldList}
 use Rattle.ion.specs.Decode.{localBy}
@@ -24,9 +24,11 @@ use Rattle.ion.specs.declared.offset.OffsetMinutes.{OffsetMinutes}
 use Rattle.ion.specs.declared.offset.Offset.{Offset}
 use Rattle.ion.specs.declared.offset.Offset.the-variants.{Unknown, Known}
 use Rattle.ion.proofs.Offsets.{back-and-raw, back-within}
-use Rattle.calendar.proofs.Months.{month-to-twelve, month-most}
-use Rattle.calendar.proofs.Shifts.{shifted-is, shift-back, shift-room, shifted-year}
+use Rattle.calendar.proofs.Dates.{month-of, day-of}
+use Rattle.calendar.proofs.Shifts.{shifted-is, shift-forth, shift-room, shifted-year}
 use Rattle.fraction.proofs.Scales.{units-lt}
+use Rattle.timestamp.proofs.Valid.{valid-time}
+use Rattle.timestamp.proofs.UtcForm.{negated-within}
 use Rattle.timestamp_binary.specs.Encodable.{Encodable}
 use Rattle.timestamp_binary.specs.Acceptable.{Acceptable}
 use Rattle.timestamp_binary.specs.BodyFor.{bodyFor}
@@ -46,19 +48,21 @@ raw-some r m e z =
     let y : _≡_ {A = ℕ} 0 1 = cc in
     omega arith
 
--- six fields, each below a bound
-small-list : (u : Fields) → u .year ≤ 10000 → u .month ≤ 12 → u .day ≤ 31 → u .hour ≤ 23 → u .minute ≤ 59 → u .second ≤ 59 → (i : ℕ) → getD (fieldList u) i 0 < 16384
-small-list u y m d h n s zero = omega arith
-small-list u y m d h n s (suc zero) = omega arith
-small-list u y m d h n s (suc (suc zero)) = omega arith
-small-list u y m d h n s (suc (suc (suc zero))) = omega arith
-small-list u y m d h n s (suc (suc (suc (suc zero)))) = omega arith
-small-list u y m d h n s (suc (suc (suc (suc (suc zero))))) = omega arith
-small-list u y m d h n s (suc (suc (suc (suc (suc (suc i)))))) = lit< tt
+-- the fields of a date and a time, each below a bound
+pub fields-below : (b : ℕ) → 60 ≤ b → (u : Fields) → IsDateTime (timeIn u) → u .second ≤ 59 → Below b (u .month ∷ u .day ∷ u .hour ∷ u .minute ∷ u .second ∷ [])
+fields-below b l u t s =
+    let d = dateIn u in
+    each-below b (u .month ∷ u .day ∷ u .hour ∷ u .minute ∷ u .second ∷ []) (
+      omega (arith, month-of d (t .date)),
+      (omega (arith, day-of d (t .date)), (omega (arith, t .hours), (omega (arith, t .minutes), (omega arith, omega arith)))),
+    )
+
+small-list : (u : Fields) → u .year ≤ 10000 → IsDateTime (timeIn u) → u .second ≤ 59 → Below 16384 (fieldList u)
+small-list u y t s = below-cons 16384 (u .year) (u .month ∷ u .day ∷ u .hour ∷ u .minute ∷ u .second ∷ []) (omega arith) (fields-below 16384 (lit≤ tt) u t s)
 
 module _ (f : Fields) (a : ℕ) (v : Valid f a) where
   time : IsDateTime (timeIn f)
-  time = record { date = v .date; hours = omega (arith, v .hour); minutes = omega (arith, v .minute) }
+  time = valid-time v
 
   -- ---- no more of the fraction than its digits
 
@@ -83,12 +87,6 @@ module _ (f : Fields) (a : ℕ) (v : Valid f a) where
   raw-is-zero : offsetOf (f .offset) ≡ Unknown → f .offset ≡ rawIs 0
   raw-is-zero e = ap rawIs (raw-zero (f .offset) e)
 
-  month-le : f .month ≤ 12
-  month-le = month-to-twelve (isLeap (f .year)) (f .month) (omega (arith, v .date .first, v .date .last))
-
-  day-le : f .day ≤ 31
-  day-le = omega (arith, v .date .last, month-most (isLeap (f .year)) (f .month))
-
   unknown-encodable : (o : Offset) → o ≡ Unknown → f .offset ≡ rawIs 0 → Encodable (record { offset = o; utc = f; coefficient = a / scale (f .digits) })
   unknown-encodable o e r =
       rw e
@@ -96,7 +94,7 @@ module _ (f : Fields) (a : ℕ) (v : Valid f a) where
         within-day = tt;
         no-raw = r;
         precise = v .precision;
-        small = small-list f (omega (arith, v .to-year)) month-le day-le (v .hour) (v .minute) (v .second);
+        small = small-list f (omega (arith, v .to-year)) time (v .second);
         no-month = v .no-month;
         no-day = v .no-day;
         no-hour = v .no-hour;
@@ -115,7 +113,7 @@ module _ (f : Fields) (a : ℕ) (v : Valid f a) where
     within = let w = back-within (f .offset) (v .offset) in rw e at w
 
     within-neg : natAbs (negℤ (m .0)) < 1440
-    within-neg = omega (arith, within, natAbs-parts (m .0), natAbs-parts (negℤ (m .0)), neg-parts (m .0))
+    within-neg = negated-within (m .0) within
 
     utc : DateTime
     utc = shifted (timeIn f) (negℤ (m .0))
@@ -134,7 +132,7 @@ module _ (f : Fields) (a : ℕ) (v : Valid f a) where
     utc-year = shifted-year (timeIn f) (negℤ (m .0)) time (v .from-year) (v .to-year) within-neg
 
     local-again : shifted (shifted (timeIn f) (negℤ (m .0))) (m .0) ≡ timeIn f
-    local-again = ap (shifted (shifted (timeIn f) (negℤ (m .0)))) (sym (negℤ-negℤ (m .0))) ∙ shift-back (timeIn f) (negℤ (m .0)) time room
+    local-again = shift-forth (timeIn f) (m .0) time room
 
     -- a coarser stamp has no known offset
     pub late : f .precision < 3 → ⊥
@@ -144,16 +142,12 @@ module _ (f : Fields) (a : ℕ) (v : Valid f a) where
         → Encodable (record { offset = o; utc = withTime f (shifted (timeIn f) (negℤ (m .0))) (rawIs 0); coefficient = a / scale (f .digits) })
     known-encodable o q =
         let t = shifted (timeIn f) (negℤ (m .0)) in
-        let leap = isLeap (t .year) in
-        let d = utc-time .date in
         rw q
         (record {
           within-day = within;
           no-raw = refl;
           precise = v .precision;
-          small =
-              small-list (withTime f t (rawIs 0)) utc-year (month-to-twelve leap (t .month) (omega (arith, d .first, d .last)))
-              (omega (arith, d .last, month-most leap (t .month))) (omega (arith, utc-time .hours)) (omega (arith, utc-time .minutes)) (v .second);
+          small = small-list (withTime f t (rawIs 0)) utc-year utc-time (v .second);
           no-month = λ h. absurd (late (omega arith));
           no-day = λ h. absurd (late (omega arith));
           no-hour = λ h. absurd (late h);

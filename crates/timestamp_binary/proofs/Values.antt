@@ -2,15 +2,14 @@
 -- Assumes nothing.
 use mathlib.Core.Path.{_≡_, refl, sym, ap, ap₂, _∙_}
 use mathlib.Core.List.{List, [], _∷_, _++_}
-use Prim.Native.Nat.{ℕ, zero, suc, _+_, _-_, _*_, _/_, _≤_, _<_}
+use Prim.Native.Nat.{ℕ, suc, _+_, _-_, _*_, _/_, _≤_, _<_}
 use native.Mathlib.Nat.{div-le-self}
 use native.Mathlib.Omega.{arith}
 use native.Mathlib.Decide.{decLe}
 use borrow.Author.Tests.{le-ltb, ne-eqb}
-use lib.Dec.{lit<}
-use lib.ListN.{length, take, getD, length-append}
+use lib.Dec.{lit≤}
+use lib.ListN.{length, take, length-append}
 use lib.Seq.{take-at}
-use Rattle.ion.specs.Calendar.{isLeap}
 use Rattle.ion.specs.Pair.{wordIn, pairIs}
 use Rattle.ion.specs.Word.{wordOf, fieldsOf}
 use Rattle.ion.specs.Fraction.{scale}
@@ -18,28 +17,16 @@ use Rattle.ion.specs.Accepted.{Accepted}
 use Rattle.ion.specs.Value.{offsetBytes, varuints, fieldList, fieldCount, fractionBytes, bodyFrom, bodyOf, valueOf}
 use Rattle.ion.specs.Decode.{found, decodeBody, pairFrom}
 use Rattle.ion.specs.ReadValue.{acceptedReading, isBodyOf, takenAs, readBody, readAfter, readLength, readOf}
-use Rattle.ion.specs.declared.Fields.{Fields}
 use Rattle.ion.specs.declared.Timestamp.{Timestamp}
 use Rattle.ion.proofs.Same.{same-refl}
-use Rattle.calendar.proofs.Months.{month-to-twelve, month-most}
 use Rattle.timestamp.proofs.Accepts.{check-zero}
 use Rattle.timestamp.proofs.Valid.{accepted-word}
 use Rattle.timestamp_binary.specs.BodyFor.{bodyFor}
 use Rattle.timestamp_binary.proofs.DecodeBack.{body-back}
-use Rattle.timestamp_binary.proofs.UtcBody.{encodable, acceptable, local-fields, attoseconds-back, utc-digits}
+use Rattle.timestamp_binary.proofs.UtcBody.{fields-below, encodable, acceptable, local-fields, attoseconds-back, utc-digits}
 use Rattle.timestamp_binary.proofs.Lengths.{offset-length, fields-length, fraction-length, header-short, header-long}
 
 -- ---- the body of an accepted timestamp
-
--- the fields after the year, each below 128
-short-fields : (u : Fields) → u .month ≤ 12 → u .day ≤ 31 → u .hour < 24 → u .minute < 60 → u .second ≤ 59
-    → (i : ℕ) → getD (u .month ∷ u .day ∷ u .hour ∷ u .minute ∷ u .second ∷ []) i 0 < 128
-short-fields u m d h n s zero = omega arith
-short-fields u m d h n s (suc zero) = omega arith
-short-fields u m d h n s (suc (suc zero)) = omega arith
-short-fields u m d h n s (suc (suc (suc zero))) = omega arith
-short-fields u m d h n s (suc (suc (suc (suc zero)))) = omega arith
-short-fields u m d h n s (suc (suc (suc (suc (suc i))))) = lit< tt
 
 module _ (s : Timestamp) (p : Accepted s) where
   pub pair-back : pairFrom (bodyFor (fieldsOf (wordIn s)) (s .attoseconds)) ≡ s
@@ -73,9 +60,7 @@ module _ (s : Timestamp) (p : Accepted s) where
       let u = x .utc in
       let e = encodable f a v in
       let q = acceptable f a v in
-      let d = q .time .date in
-      let leap = isLeap (u .year) in
-      let short = short-fields u (month-to-twelve leap (u .month) (omega (arith, d .first, d .last))) (omega (arith, d .last, month-most leap (u .month))) (q .time .hours) (q .time .minutes) (q .second) in
+      let short = fields-below 128 (lit≤ tt) u (q .time) (q .second) in
       let l = take (fieldCount (u .precision)) (fieldList u) in
       let r = fractionBytes (u .digits) (x .coefficient) in
       omega (
