@@ -36,7 +36,7 @@ NotLater s t = leZ (cmpOf s t .order) (pos 0) ≡ true
 by-counts : (s t : Timestamp) → Accepted s → Accepted t → cmpOf s t ≡ ordered (orderOf (countOf s) (countOf t))
 by-counts s t p q = cmp-zero s t (both-zero s t p q)
 
-sign-is : (s t : Timestamp) → Accepted s → Accepted t → cmpOf s t .order ≡ orderOf (countOf s) (countOf t)
+pub sign-is : (s t : Timestamp) → Accepted s → Accepted t → cmpOf s t .order ≡ orderOf (countOf s) (countOf t)
 sign-is s t p q = ap (λ (r : Ordered). r .order) (by-counts s t p q)
 
 module _ (s t : Timestamp) (p : Accepted s) (q : Accepted t) where
@@ -50,7 +50,7 @@ module _ (s t : Timestamp) (p : Accepted s) (q : Accepted t) where
   equal-counts h = order-equal (countOf s) (countOf t) (sym (sign-is s t p q) ∙ h)
 
   -- `==` holds where `cmp` gives 0
-  equal-is : eqOf s t .equal ≡ eqb (countOf s) (countOf t)
+  pub equal-is : eqOf s t .equal ≡ eqb (countOf s) (countOf t)
   equal-is = ap (λ (r : Compared). r .equal) (eq-zero s t (both-zero s t p q))
 
   pub zero-equal : cmpOf s t .order ≡ pos 0 → eqOf s t .equal ≡ true

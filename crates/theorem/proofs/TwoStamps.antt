@@ -1,57 +1,44 @@
 -- The theorem on any two accepted timestamps. Assumes nothing.
-use mathlib.Core.Path.{_≡_, refl, sym, ap, ap₂, _∙_}
+use mathlib.Core.Path.{_≡_, sym, ap, ap₂, _∙_}
 use mathlib.Core.Bool.{true}
 use mathlib.Core.List.{List, [], _++_, append-nil}
-use Prim.Native.Nat.{ℕ, _*_, _+_, _/_, _%_, _^_, _<_}
-use native.Mathlib.Nat.{mod-lt}
-use native.Mathlib.Omega.{arith}
+use Prim.Native.Nat.{ℕ}
 use borrow.Author.Tests.{eq-eqb, eqb-true}
-use lib.Dec.{lit<}
-use lib.IntN.{ℤ, pos, _-ℤ_, _*ℤ_}
+use lib.IntN.{pos, _-ℤ_}
 use Rattle.ion.specs.Check.{checkOf}
 use Rattle.ion.specs.Accepted.{Accepted}
 use Rattle.ion.specs.Count.{countOf}
-use Rattle.ion.specs.Order.{numberOfTwo, orderOf, gapOf, cmpOf, eqOf, distanceOf}
+use Rattle.ion.specs.Order.{numberOfTwo, cmpOf, eqOf, distanceOf}
 use Rattle.ion.specs.Text.{textOf}
 use Rattle.ion.specs.Value.{valueOf}
 use Rattle.ion.specs.ReadValue.{readOf}
 use Rattle.ion.specs.declared.Timestamp.{Timestamp}
 use Rattle.ion.specs.declared.Read.{Read}
-use Rattle.timestamp.proofs.Accepts.{check-gives, check-accepts, check-zero}
+use Rattle.timestamp.proofs.Accepts.{check-gives, check-accepts}
+use Rattle.order.proofs.Instants.{count-is}
+use Rattle.order.proofs.Answers.{both-zero}
+use Rattle.order.proofs.TimeOrder.{sign-is, equal-is}
+use Rattle.order.proofs.Distances.{IsDistance, distance-leads}
 use Rattle.timestamp_binary.proofs.Values as values
 use Rattle.timestamp_binary.proofs.Readings.{value-apart, value-injective}
-use Rattle.theorem.specs.TwoStamps.{utcCount, signedSize, SignOf, TwoStamps}
-use Rattle.order.proofs.Instants.{count-is}
-use Rattle.theorem.proofs.Counts.{signed-gap, order-sign, size-is}
+use Rattle.theorem.specs.TwoStamps.{utcCount, SignOf, TwoStamps}
+use Rattle.theorem.proofs.Counts.{order-sign}
 use Rattle.theorem.proofs.Bytes.{writes, reads-back}
 use Rattle.timestamp_text.proofs.Distinct.{text-inj}
 
 module _ (a b : Timestamp) (p : Accepted a) (q : Accepted b) where
   both : numberOfTwo a b ≡ 0
-  both = rw (check-zero a p, check-zero b q)
+  both = both-zero a b p q
+
+  distance : IsDistance a b (distanceOf a b)
+  distance = distance-leads a b p q
 
   -- the signed difference of the counts
   difference : pos (countOf a) -ℤ pos (countOf b) ≡ utcCount a -ℤ utcCount b
   difference = ap₂ _-ℤ_ (count-is a p) (count-is b q)
 
-  distance-exact : signedSize (distanceOf a b) ≡ utcCount a -ℤ utcCount b
-  unfolding distanceOf
-  distance-exact =
-      let m = countOf a in
-      let n = countOf b in
-      rw both (ap (λ (g : ℕ). orderOf m n *ℤ pos g) (size-is (gapOf m n)) ∙ signed-gap m n ∙ difference)
-
-  distance-parts : distanceOf a b .attoseconds < 10 ^ 18
-  unfolding distanceOf
-  distance-parts = rw both (mod-lt (gapOf (countOf a) (countOf b)) (lit< tt))
-
-  distance-sign : SignOf (distanceOf a b .sign) (utcCount a -ℤ utcCount b)
-  unfolding distanceOf
-  distance-sign = rw (both, ← difference) (order-sign (countOf a) (countOf b))
-
   cmp-exact : SignOf (cmpOf a b .order) (utcCount a -ℤ utcCount b)
-  unfolding cmpOf
-  cmp-exact = rw (both, ← difference) (order-sign (countOf a) (countOf b))
+  cmp-exact = rw (sign-is a b p q, ← difference) (order-sign (countOf a) (countOf b))
 
   same-count : utcCount a ≡ utcCount b → countOf a ≡ countOf b
   same-count e =
@@ -59,9 +46,8 @@ module _ (a b : Timestamp) (p : Accepted a) (q : Accepted b) where
       cc
 
   eq-exact : (eqOf a b .equal ≡ true → utcCount a ≡ utcCount b) × (utcCount a ≡ utcCount b → eqOf a b .equal ≡ true)
-  unfolding eqOf
   eq-exact =
-      rw both (
+      rw (equal-is a b p q) (
         (λ e. sym (count-is a p) ∙ ap pos (eqb-true (countOf a) (countOf b) e) ∙ count-is b q),
         (λ e. eq-eqb (countOf a) (countOf b) (same-count e)),
       )
@@ -93,9 +79,9 @@ module _ (a b : Timestamp) (p : Accepted a) (q : Accepted b) where
       record {
         count-exact = (count-is a p, count-is b q);
         distance-accepted = accepted-distance;
-        distance-exact = distance-exact;
-        distance-parts = distance-parts;
-        distance-sign = distance-sign;
+        distance-exact = sym (distance .difference) ∙ difference;
+        distance-parts = distance .below;
+        distance-sign = rw (distance .sign) cmp-exact;
         cmp-accepted = accepted-cmp;
         cmp-exact = cmp-exact;
         eq-accepted = accepted-eq;
