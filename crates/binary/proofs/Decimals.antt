@@ -1,6 +1,6 @@
 -- The bytes of a decimal: those of its exponent and of its coefficient, none for zero with exponent 0. Assumes nothing.
 use mathlib.Core.Path.{_≡_, refl, ap, _∙_}
-use mathlib.Core.Bool.{Bool, true, false, _&&_}
+use mathlib.Core.Bool.{true, false, _&&_, and-false}
 use mathlib.Core.List.{[], _++_}
 use Prim.Native.Nat.{ℕ, suc, _+_}
 use native.Mathlib.Omega.{arith}
@@ -33,8 +33,4 @@ module _ (c : ℕ) (e : ℤ) {m : ℕ} (size : m ≡ natAbs e) where
 
 -- a fraction, whose exponent is below 0, always has both parts
 pub decimal-fraction : (c d : ℕ) → decimalBytes c (negsuc d) ≡ varint (negsuc d) ++ int c
-decimal-fraction c d = decimal-some c (negsuc d) refl (rw (ne-eqb (suc d) 0 (λ e. omega arith)) (neither (eqb c 0)))
-  where
-    neither : (t : Bool) → (t && false) ≡ false
-    neither true = refl
-    neither false = refl
+decimal-fraction c d = decimal-some c (negsuc d) refl (rw (ne-eqb (suc d) 0 (λ e. omega arith)) (and-false (eqb c 0)))

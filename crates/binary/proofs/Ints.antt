@@ -1,7 +1,7 @@
 -- The bytes of an Int's magnitude, with their number a variable: they are the shortest form, are read back, and are all that is
 -- read. Assumes nothing.
 use mathlib.Core.Path.{_≡_, refl, sym, ap, _∙_}
-use mathlib.Core.Bool.{Bool, true, false, cond, _&&_}
+use mathlib.Core.Bool.{Bool, true, false, cond, _&&_, and-false}
 use mathlib.Core.List.{List, _∷_}
 use Prim.Native.Nat.{ℕ, suc, _+_, _-_, _*_, _/_, _^_, _≤_, _<_}
 use native.Mathlib.Nat.{pow-succ', mul-assoc, le-of-eq, le-trans, lt-of-le-of-lt, lt-of-mul-lt-mul-right, mul-le-mul-left, mul-le-mul-right}
@@ -84,11 +84,7 @@ read-above s h = rw (le-ltb (bigEndian s) (2 ^ 64) h)
 
 pub read-longer : (s : List ℕ) → (intCount (bigEndian s) ≡ length s → ⊥) → readInt s ≡ Bad
 unfolding readInt
-read-longer s n = rw (ne-eqb (intCount (bigEndian s)) (length s) n) (neither (ltb (bigEndian s) (2 ^ 64)))
-  where
-    neither : (t : Bool) → cond (t && false) (Value (bigEndian s)) Bad ≡ Bad
-    neither true = refl
-    neither false = refl
+read-longer s n = rw (ne-eqb (intCount (bigEndian s)) (length s) n, and-false (ltb (bigEndian s) (2 ^ 64)))
 
 -- a number of 64 bits has no form of more than nine bytes
 pub read-long : (s : List ℕ) → 9 < length s → readInt s ≡ Bad

@@ -1,10 +1,10 @@
 -- What a listing has put into a buffer after some of the input. Assumes nothing.
 use mathlib.Core.Path.{_≡_, refl, sym, ap, ap₂, _∙_}
-use mathlib.Core.List.{List, [], _∷_, _++_, append-assoc, append-nil}
-use Prim.Native.Nat.{ℕ, zero, suc, _+_, _-_, _*_, _≤_, _<_}
+use mathlib.Core.List.{List, [], _++_, append-assoc, append-nil}
+use Prim.Native.Nat.{ℕ, _+_, _-_, _*_, _≤_, _<_}
 use native.Mathlib.Nat.{zero-add}
 use native.Mathlib.Omega.{arith}
-use lib.ListN.{length, take, drop, length-append, length-drop, take-append-drop}
+use lib.ListN.{length, take, drop, length-append, length-drop, drop-of-length-le, take-append-drop}
 use lib.Seq.{length-take-le, drop-drop}
 use Rattle.ion.specs.Output.{over, Run}
 use Rattle.ion.specs.Text.{textOf}
@@ -15,13 +15,6 @@ use Rattle.output.proofs.Stores.{drop-over, length-over}
 use Rattle.output.proofs.Runs.{run-front}
 use Rattle.timestamp_binary.proofs.Readings.{read-is}
 use Rattle.listing.proofs.Lines.{lines, taken-some, lines-none, next-line, last-line}
-
-nothing-left : (n : ℕ) (l : List ℕ) → length l ≤ n → drop n l ≡ []
-nothing-left n l h = no-length (drop n l) (omega (arith, length-drop n l))
-  where
-    no-length : (s : List ℕ) → length s ≡ 0 → s ≡ []
-    no-length [] e = refl
-    no-length (b ∷ s) e = absurd (omega arith)
 
 -- of the input the first `at` bytes are listed, in the first `end` bytes of e, which was d
 pub record Listed (input d e : List ℕ) (at end : ℕ) : Type 0 where
@@ -112,7 +105,7 @@ module _ {input d e : List ℕ} {at end : ℕ} (p : Listed input d e at end) (ro
   -- the end of the input
   pub finish : length input ≤ at → Run d 0 (lines input) e end
   finish h =
-      let n : drop at input ≡ [] = nothing-left at input h in
+      let n : drop at input ≡ [] = drop-of-length-le input h in
       whole (lines input)
       (sym (append-nil (take end e)) ∙ ap (λ (x : List ℕ). take end e ++ x) (sym (ap lines n ∙ lines-none 0)) ∙ p .listed)
       (p .rest) inside

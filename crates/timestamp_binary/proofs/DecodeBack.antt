@@ -4,7 +4,7 @@ use mathlib.Core.Bool.{Bool, true, cond}
 use mathlib.Core.List.{List, [], _∷_, _++_, append-assoc}
 use Prim.Native.Nat.{ℕ, zero, suc, _+_, _^_, _≤_, _<_}
 use native.Mathlib.Omega.{arith}
-use borrow.Author.Tests.{lt-ltb, ne-eqb}
+use borrow.Author.Tests.{lt-ltb}
 use lib.Dec.{lit≤, lit<}
 use lib.IntN.{ℤ, pos, negsuc, natAbs}
 use lib.ListN.{length, take, drop, length-append}
@@ -13,7 +13,6 @@ use Rattle.places.proofs.Values.{Below, below-take}
 use Rattle.ion.specs.VarUInt.{varuint, groupCount, readVarUInt}
 use Rattle.ion.specs.VarInt.{signed, varint, isNegative, readVarInt}
 use Rattle.ion.specs.Int.{int, readInt}
-use Rattle.ion.specs.Decimal.{decimalBytes}
 use Rattle.ion.specs.Offset.{WithinDay, minutesIs, rawIs}
 use Rattle.ion.specs.Value.{offsetBytes, varuints, fieldList, fieldCount, fractionBytes, bodyFrom}
 use Rattle.ion.specs.Decode.{found, nothing, signedOffset, offsetFrom, decodeOffset, oneMore, fieldFrom, decodeFields, fractionFrom, decodeFraction, filled, precisionWith, fieldsFrom, afterFields, afterOffset, fromOffset, decodeBody, isFieldCount}
@@ -27,6 +26,7 @@ use Rattle.ion.specs.declared.IntRead.the-variants as magnitude
 use Rattle.binary.proofs.VarUInts.{read-varuint, length-varuint, count-some}
 use Rattle.binary.proofs.VarInts.{read-signed, read-varint, length-signed, signed-some}
 use Rattle.binary.proofs.Ints.{read-int}
+use Rattle.binary.proofs.Decimals.{decimal-fraction}
 use Rattle.timestamp_binary.specs.Encodable.{Encodable}
 
 -- ---- the offset
@@ -77,9 +77,8 @@ fields-back (suc n) (v ∷ l) r h k z =
 -- ---- the fraction
 
 pub fraction-bytes : (d c : ℕ) → fractionBytes (suc d) c ≡ signed true (suc d) ++ int c
-unfolding fractionBytes decimalBytes varint
-fraction-bytes d zero = rw (ne-eqb (suc d) 0 (omega arith))
-fraction-bytes d (suc c) = rw (ne-eqb (suc c) 0 (omega arith))
+unfolding fractionBytes varint
+fraction-bytes d c = decimal-fraction c d
 
 pub fraction-back : (d c : ℕ) → d ≤ 63 → c < 2 ^ 64 → (d ≡ 0 → c ≡ 0) → decodeFraction (fractionBytes d c) ≡ found (d, c)
 unfolding decodeFraction fractionBytes
