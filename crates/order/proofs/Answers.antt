@@ -12,6 +12,9 @@ use Rattle.ion.specs.Accepted.{Accepted}
 use Rattle.ion.specs.Count.{countOf}
 use Rattle.ion.specs.Order.{numberOfTwo, orderOf, ionOrder, gapOf, cmpOf, eqOf, ionEqOf, ionCmpOf, distanceOf}
 use Rattle.ion.specs.declared.Timestamp.{Timestamp}
+use Rattle.ion.specs.declared.Ordered.{Ordered}
+use Rattle.ion.specs.declared.Compared.{Compared}
+use Rattle.ion.specs.declared.Distance.{Distance}
 use Rattle.timestamp.proofs.Accepts.{check-gives, check-zero}
 use Rattle.timestamp.proofs.Told.{if-zero, if-refused}
 use Rattle.order.specs.Answers.{ordered, compared, distanceOfCounts}
@@ -60,35 +63,32 @@ module _ (s t : Timestamp) where
           attoseconds = if-zero _ (gap % 10 ^ 18) 0 e i;
         }
 
-  -- a number alone
-  module _ (h : numberOfTwo s t ≡ 0 → ⊥) where
-    abbrev n : ℕ
-    n = numberOfTwo s t
-
-    pub cmp-refused : cmpOf s t ≡ record { number = n; order = pos 0 }
+  -- a number alone, r, as it was answered
+  module _ {r : ℕ} (e : r ≡ numberOfTwo s t) (h : r ≡ 0 → ⊥) where
+    pub cmp-refused : _≡_ {A = Ordered} (record { number = r; order = pos 0 }) (cmpOf s t)
     unfolding cmpOf
-    cmp-refused = λ i. record { number = n; order = if-refused _ (orderOf (countOf s) (countOf t)) (pos 0) h i }
+    cmp-refused = λ i. record { number = e i; order = if-refused (orderOf (countOf s) (countOf t)) (pos 0) e h i }
 
-    pub ion-cmp-refused : ionCmpOf s t ≡ record { number = n; order = pos 0 }
+    pub ion-cmp-refused : _≡_ {A = Ordered} (record { number = r; order = pos 0 }) (ionCmpOf s t)
     unfolding ionCmpOf
-    ion-cmp-refused = λ i. record { number = n; order = if-refused _ (ionOrder s t) (pos 0) h i }
+    ion-cmp-refused = λ i. record { number = e i; order = if-refused (ionOrder s t) (pos 0) e h i }
 
-    pub eq-refused : eqOf s t ≡ record { number = n; equal = false }
+    pub eq-refused : _≡_ {A = Compared} (record { number = r; equal = false }) (eqOf s t)
     unfolding eqOf
-    eq-refused = λ i. record { number = n; equal = if-refused _ (eqb (countOf s) (countOf t)) false h i }
+    eq-refused = λ i. record { number = e i; equal = if-refused (eqb (countOf s) (countOf t)) false e h i }
 
-    pub ion-eq-refused : ionEqOf s t ≡ record { number = n; equal = false }
+    pub ion-eq-refused : _≡_ {A = Compared} (record { number = r; equal = false }) (ionEqOf s t)
     unfolding ionEqOf
-    ion-eq-refused = λ i. record { number = n; equal = if-refused _ (samePair s t) false h i }
+    ion-eq-refused = λ i. record { number = e i; equal = if-refused (samePair s t) false e h i }
 
-    pub distance-refused : distanceOf s t ≡ record { number = n; sign = pos 0; seconds = 0; attoseconds = 0 }
+    pub distance-refused : _≡_ {A = Distance} (record { number = r; sign = pos 0; seconds = 0; attoseconds = 0 }) (distanceOf s t)
     unfolding distanceOf
     distance-refused =
         let gap = gapOf (countOf s) (countOf t) in
         λ i.
         record {
-          number = n;
-          sign = if-refused _ (orderOf (countOf s) (countOf t)) (pos 0) h i;
-          seconds = if-refused _ (gap / 10 ^ 18) 0 h i;
-          attoseconds = if-refused _ (gap % 10 ^ 18) 0 h i;
+          number = e i;
+          sign = if-refused (orderOf (countOf s) (countOf t)) (pos 0) e h i;
+          seconds = if-refused (gap / 10 ^ 18) 0 e h i;
+          attoseconds = if-refused (gap % 10 ^ 18) 0 e h i;
         }

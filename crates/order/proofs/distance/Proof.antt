@@ -1,18 +1,13 @@
 -- `order::distance` meets its contract. Assumes nothing.
-use mathlib.Core.Path.{_≡_, sym, ap, _∙_}
-use Prim.Native.Nat.{ℕ}
-use lib.IntN.{pos}
+use mathlib.Core.Path.{_≡_, sym, _∙_}
 use borrow.Author.Needs.{needs}
 use Rattle.ion.specs.Order.{numberOfTwo}
-use Rattle.ion.specs.declared.Distance.{Distance}
 use Rattle.order.proofs.Answers.{both-accepted, distance-zero, distance-refused}
 use Rattle.order.proofs.distance.Statement.{statement}
 use Rattle.order.proofs.distance.Tie as tie
 
 returns : tie.Need-returns
-returns c =
-    let e = c .before .number-of-two .ensures in
-    ap {B = Distance} (λ (n : ℕ). record { number = n; sign = pos 0; seconds = 0; attoseconds = 0 }) e ∙ sym (distance-refused _ _ (λ z. c .if1 .taken (e ∙ z)))
+returns c = distance-refused _ _ (c .before .number-of-two .ensures) (c .if1 .taken)
 
 -- both checks have answered 0
 zero : (c : tie.Else1) → let x = c .before .before .args in numberOfTwo (x .s) (x .t) ≡ 0

@@ -1,7 +1,5 @@
 -- `order::eq` meets its contract. Assumes nothing.
 use mathlib.Core.Path.{_≡_, sym, ap, _∙_}
-use mathlib.Core.Bool.{false}
-use Prim.Native.Nat.{ℕ}
 use lib.Dec.{eqb}
 use lib.IntN.{ℤ}
 use mir.Syntax.{w32}
@@ -9,7 +7,6 @@ use mir.Val.{ofZ}
 use borrow.Author.Needs.{needs}
 use Rattle.ion.specs.Count.{countOf}
 use Rattle.ion.specs.Order.{numberOfTwo}
-use Rattle.ion.specs.declared.Compared.{Compared}
 use Rattle.order.specs.Answers.{compared}
 use Rattle.order.proofs.Orders.{order-zero}
 use Rattle.order.proofs.Answers.{both-accepted, eq-zero, eq-refused}
@@ -17,9 +14,7 @@ use Rattle.order.proofs.eq.Statement.{statement}
 use Rattle.order.proofs.eq.Tie as tie
 
 returns : tie.Need-returns
-returns c =
-    let e = c .before .number-of-two .ensures in
-    ap {B = Compared} (λ (n : ℕ). record { number = n; equal = false }) e ∙ sym (eq-refused _ _ (λ z. c .if1 .taken (e ∙ z)))
+returns c = eq-refused _ _ (c .before .number-of-two .ensures) (c .if1 .taken)
 
 -- both checks have answered 0
 zero : (c : tie.Else1) → let x = c .before .before .args in numberOfTwo (x .s) (x .t) ≡ 0

@@ -1,20 +1,15 @@
 -- `order::ion_cmp` meets its contract. Assumes nothing.
 use mathlib.Core.Path.{_≡_, sym, ap, _∙_}
-use Prim.Native.Nat.{ℕ}
-use lib.IntN.{pos}
 use mir.Facts.{toZ-ofZ}
 use borrow.Author.Needs.{needs, sfits-of}
 use Rattle.ion.specs.Order.{numberOfTwo}
-use Rattle.ion.specs.declared.Ordered.{Ordered}
 use Rattle.order.specs.Answers.{ordered}
 use Rattle.order.proofs.Answers.{ion-cmp-zero, ion-cmp-refused}
 use Rattle.order.proofs.ion_cmp.Statement.{statement}
 use Rattle.order.proofs.ion_cmp.Tie as tie
 
 returns : tie.Need-returns
-returns c =
-    let e = c .before .number-of-two .ensures in
-    ap {B = Ordered} (λ (n : ℕ). record { number = n; order = pos 0 }) e ∙ sym (ion-cmp-refused _ _ (λ z. c .if1 .taken (e ∙ z)))
+returns c = ion-cmp-refused _ _ (c .before .number-of-two .ensures) (c .if1 .taken)
 
 -- both checks have answered 0
 zero : (c : tie.Else1) → let x = c .before .before .args in numberOfTwo (x .s) (x .t) ≡ 0

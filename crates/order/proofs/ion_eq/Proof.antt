@@ -1,18 +1,13 @@
 -- `order::ion_eq` meets its contract. Assumes nothing.
-use mathlib.Core.Path.{_≡_, sym, ap, _∙_}
-use mathlib.Core.Bool.{false}
-use Prim.Native.Nat.{ℕ}
+use mathlib.Core.Path.{_≡_, sym, _∙_}
 use borrow.Author.Needs.{needs}
 use Rattle.ion.specs.Order.{numberOfTwo}
-use Rattle.ion.specs.declared.Compared.{Compared}
 use Rattle.order.proofs.Answers.{ion-eq-zero, ion-eq-refused}
 use Rattle.order.proofs.ion_eq.Statement.{statement}
 use Rattle.order.proofs.ion_eq.Tie as tie
 
 returns : tie.Need-returns
-returns c =
-    let e = c .before .number-of-two .ensures in
-    ap {B = Compared} (λ (n : ℕ). record { number = n; equal = false }) e ∙ sym (ion-eq-refused _ _ (λ z. c .if1 .taken (e ∙ z)))
+returns c = ion-eq-refused _ _ (c .before .number-of-two .ensures) (c .if1 .taken)
 
 -- both checks have answered 0
 zero : (c : tie.Else1) → let x = c .before .before .args in numberOfTwo (x .s) (x .t) ≡ 0

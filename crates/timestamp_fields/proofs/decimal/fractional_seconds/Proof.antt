@@ -25,7 +25,7 @@ returns c =
     let e = c .before .number-of .ensures in
     let s = c .before .before .args .s in
     let d = decimalIn (fieldsOf (wordIn s)) (s .attoseconds) in
-    λ i. record { number = e i; value = sym (if-refused _ d zeroDecimal (λ z. c .if1 .taken (e ∙ z))) i }
+    λ i. record { number = e i; value = if-refused d zeroDecimal e (c .if1 .taken) i }
 
 div : tie.Need-div-t8
 div c = rw (c .scale .ensures) (scale-pos (c .before .digits .result))

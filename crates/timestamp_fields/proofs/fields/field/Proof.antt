@@ -12,7 +12,7 @@ unfolding fieldOf
 returns c =
     let e = c .before .number-of .ensures in
     let v = c .before .before .args .value in
-    λ i. record { number = e i; value = sym (if-refused _ v 0 (λ z. c .if1 .taken (e ∙ z))) i }
+    λ i. record { number = e i; value = if-refused v 0 e (c .if1 .taken) i }
 
 returns-2 : tie.Need-returns-2
 unfolding fieldOf

@@ -16,7 +16,7 @@ unfolding offsetFieldOf
 returns c =
     let e = c .before .number-of .ensures in
     let o = offsetOf (fieldsOf (wordIn (c .before .before .args .s)) .offset) in
-    λ i. record { number = e i; value = sym (if-refused _ o Unknown (λ z. c .if1 .taken (e ∙ z))) i }
+    λ i. record { number = e i; value = if-refused o Unknown e (c .if1 .taken) i }
 
 returns-2 : tie.Need-returns-2
 unfolding offsetFieldOf fieldsOf

@@ -19,7 +19,7 @@ unfolding unitsOf
 returns c =
     let e = c .before .number-of .ensures in
     let a = c .before .before .args in
-    λ i. record { number = e i; value = sym (if-refused _ (a .s .attoseconds / scale (a .digits)) 0 (λ z. c .if1 .taken (e ∙ z))) i }
+    λ i. record { number = e i; value = if-refused (a .s .attoseconds / scale (a .digits)) 0 e (c .if1 .taken) i }
 
 -- the check has answered 0
 zero : (c : tie.Else1) → checkOf (c .before .before .args .s) .number ≡ 0

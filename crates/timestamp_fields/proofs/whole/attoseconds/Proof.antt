@@ -12,7 +12,7 @@ unfolding attosecondsFieldOf
 returns c =
     let e = c .before .number-of .ensures in
     let a = c .before .before .args .s .attoseconds in
-    λ i. record { number = e i; value = sym (if-refused _ a 0 (λ z. c .if1 .taken (e ∙ z))) i }
+    λ i. record { number = e i; value = if-refused a 0 e (c .if1 .taken) i }
 
 returns-2 : tie.Need-returns-2
 unfolding attosecondsFieldOf
