@@ -1,16 +1,19 @@
 -- Laws of offsets: which sums of them fit an i32, and raw numbers and offsets both ways. Assumes nothing.
-use mathlib.Core.Path.{_≡_, refl, ap}
+use mathlib.Core.Path.{_≡_, refl, sym, ap, _∙_}
+use mathlib.Core.Bool.{Bool, true, false, cond}
 use Prim.Native.Nat.{ℕ, zero, suc, _^_, _<_}
 use native.Mathlib.Omega.{arith}
 use lib.IntN.{ℤ, pos, natAbs, negℤ, _+ℤ_, _-ℤ_}
-use borrow.Author.Tests.{ne-eqb}
+use borrow.Author.Tests.{ne-eqb, eqb-true}
+use lib.Dec.{eqb}
 use mir.Syntax.{w32}
 use mir.Val.{SFits}
 use Rattle.integers.specs.Floor.{_plus_}
 use Rattle.integers.proofs.Parts.{Gives, apart, parts-eq, abs-fits, natAbs-parts, add-parts, sub-parts, plus-parts}
 use Rattle.integers.proofs.Signs.{size-neg}
-use Rattle.ion.specs.Offset.{minutesIs, rawIs, rawOf, offsetOf, WithinDay}
+use Rattle.ion.specs.Offset.{minutesIs, minutesOf, rawIs, rawOf, offsetOf, WithinDay}
 use Rattle.ion.specs.declared.offset.RawOffset.{RawOffset}
+use Rattle.ion.specs.declared.offset.OffsetMinutes.{OffsetMinutes}
 use Rattle.ion.specs.declared.offset.Offset.{Offset}
 use Rattle.ion.specs.declared.offset.Offset.the-variants.{Unknown, Known}
 
@@ -25,6 +28,10 @@ sum-fits a b h k = abs-fits w32 (a +ℤ b) (omega (arith, natAbs-parts a, natAbs
 pub difference-fits : (a b : ℤ) → natAbs a < 2 ^ 16 → natAbs b < 2 ^ 16 → SFits w32 (a -ℤ b)
 difference-fits a b h k = sum-fits a (negℤ b) h (omega (arith, size-neg b))
 
+pub within-day : (o : Offset) → WithinDay o → natAbs (minutesOf o) < 1440
+within-day Unknown h = omega arith
+within-day (Known m) h = h
+
 -- ---- raw numbers
 
 -- less than a day either way, moved up by a day, is the raw number: 1 to 2879
@@ -37,6 +44,20 @@ raw-below z h = omega (arith, natAbs-parts z, plus-parts 1440 z (omega (arith, n
 pub raw-lt : (o : Offset) → WithinDay o → rawOf o .0 < 2880
 raw-lt Unknown h = omega arith
 raw-lt (Known m) h = raw-below (m .0) h .1
+
+-- 0 is the raw number of the unknown offset, and of no other
+pub raw-zero : (r : RawOffset) → offsetOf r ≡ Unknown → r .0 ≡ 0
+raw-zero r e = go (eqb (r .0) 0) refl e
+  where
+    go : (t : Bool) → eqb (r .0) 0 ≡ t → cond t Unknown (Known (minutesIs (pos (r .0) -ℤ pos 1440))) ≡ Unknown → r .0 ≡ 0
+    go true q e = eqb-true (r .0) 0 q
+    go false q e = absurd (let z : _≡_ {A = ℕ} 0 1 = cc in omega arith)
+
+pub raw-some : (r : RawOffset) (m : OffsetMinutes) → offsetOf r ≡ Known m → r .0 ≡ 0 → ⊥
+raw-some r m e z =
+    let u : offsetOf (rawIs 0) ≡ Known m = ap (λ (n : ℕ). offsetOf (rawIs n)) (sym z) ∙ e in
+    let y : _≡_ {A = ℕ} 0 1 = cc in
+    omega arith
 
 -- an offset through its raw number and back
 pub raw-and-back : (o : Offset) → WithinDay o → offsetOf (rawOf o) ≡ o

@@ -5,14 +5,13 @@ use native.Mathlib.Omega.{arith}
 use lib.IntN.{ℤ, pos, negℤ, natAbs, _+ℤ_, _-ℤ_}
 use Rattle.integers.specs.Floor.{_plus_}
 use Rattle.integers.proofs.Parts.{Gives, up, down, apart, add-parts, sub-parts, neg-parts, plus-parts, natAbs-parts}
-use Rattle.ion.specs.Offset.{WithinDay, offsetOf, minutesOf}
+use Rattle.ion.specs.Offset.{offsetOf}
 use Rattle.ion.specs.Accepted.{timeIn, dateIn, Valid}
 use Rattle.ion.specs.Shift.{minuteNumber}
 use Rattle.ion.specs.Count.{offsetIn, countIn}
 use Rattle.ion.specs.Order.{orderOf}
 use Rattle.ion.specs.declared.Fields.{Fields}
-use Rattle.ion.specs.declared.offset.Offset.{Offset}
-use Rattle.ion.specs.declared.offset.Offset.the-variants.{Unknown, Known}
+use Rattle.ion.proofs.Offsets.{within-day}
 use Rattle.calendar.proofs.Dates.{after-year-zero, day-number-below}
 use Rattle.timestamp.proofs.Valid.{valid-time, valid-offset}
 use Rattle.order.specs.Local.{IsLocal, secondsAt, utcSeconds, aheadOf}
@@ -22,10 +21,6 @@ use Rattle.order.proofs.Orders.{order-shift, pairs-alike}
 use Rattle.order.proofs.Gaps.{gap-shift, shift-counts, pairs-count}
 
 -- ---- valid fields
-
-within-day : (o : Offset) → WithinDay o → natAbs (minutesOf o) < 1440
-within-day Unknown h = omega arith
-within-day (Known m) h = h
 
 pub valid-local : {f : Fields} {a : ℕ} → Valid f a → IsLocal f
 valid-local {f} v =

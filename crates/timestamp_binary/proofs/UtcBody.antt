@@ -1,16 +1,14 @@
 -- The body of an accepted timestamp: its bytes tell its parts, and its parts give its fields back. Assumes nothing.
 use mathlib.Core.Path.{_≡_, refl, sym, ap, _∙_}
-use mathlib.Core.Bool.{Bool, true, false, cond}
 use mathlib.Core.List.{[], _∷_}
 use Prim.Native.Nat.{ℕ, _*_, _/_, _^_, _≤_, _<_}
 use native.Mathlib.Nat.{div-add-mod', div-le-self}
 use native.Mathlib.Omega.{arith}
-use borrow.Author.Tests.{eqb-true}
-use lib.Dec.{eqb, lit≤}
-use lib.IntN.{pos, natAbs, negℤ, _-ℤ_}
+use lib.Dec.{lit≤}
+use lib.IntN.{natAbs, negℤ}
 use Rattle.integers.proofs.Parts.{down}
 use Rattle.places.proofs.Values.{Below, below-cons, each-below}
-use Rattle.ion.specs.Offset.{rawIs, minutesIs, offsetOf, rawOf}
+use Rattle.ion.specs.Offset.{rawIs, offsetOf, rawOf}
 use Rattle.ion.specs.Shift.{IsDateTime, minuteNumber, shifted}
 use Rattle.ion.specs.Fraction.{scale}
 use Rattle.ion.specs.Accepted.{Valid, dateIn, timeIn}
@@ -19,11 +17,10 @@ use Rattle.ion.specs.Value.{fieldList}
 use Rattle.ion.specs.Decode.{localBy}
 use Rattle.ion.specs.declared.DateTime.{DateTime}
 use Rattle.ion.specs.declared.Fields.{Fields}
-use Rattle.ion.specs.declared.offset.RawOffset.{RawOffset}
 use Rattle.ion.specs.declared.offset.OffsetMinutes.{OffsetMinutes}
 use Rattle.ion.specs.declared.offset.Offset.{Offset}
 use Rattle.ion.specs.declared.offset.Offset.the-variants.{Unknown, Known}
-use Rattle.ion.proofs.Offsets.{back-and-raw, back-within}
+use Rattle.ion.proofs.Offsets.{raw-zero, raw-some, back-and-raw, back-within}
 use Rattle.calendar.proofs.Dates.{month-of, day-of}
 use Rattle.calendar.proofs.Shifts.{shifted-is, shift-forth, shift-room, shifted-year}
 use Rattle.fraction.proofs.Scales.{units-lt}
@@ -32,21 +29,6 @@ use Rattle.timestamp.proofs.UtcForm.{negated-within}
 use Rattle.timestamp_binary.specs.Encodable.{Encodable}
 use Rattle.timestamp_binary.specs.Acceptable.{Acceptable}
 use Rattle.timestamp_binary.specs.BodyFor.{bodyFor}
-
--- ---- an offset's cases
-
-raw-zero : (r : RawOffset) → offsetOf r ≡ Unknown → r .0 ≡ 0
-raw-zero r e = go (eqb (r .0) 0) refl e
-  where
-    go : (t : Bool) → eqb (r .0) 0 ≡ t → cond t Unknown (Known (minutesIs (pos (r .0) -ℤ pos 1440))) ≡ Unknown → r .0 ≡ 0
-    go true q e = eqb-true (r .0) 0 q
-    go false q e = absurd (let z : _≡_ {A = ℕ} 0 1 = cc in omega arith)
-
-raw-some : (r : RawOffset) (m : OffsetMinutes) → offsetOf r ≡ Known m → r .0 ≡ 0 → ⊥
-raw-some r m e z =
-    let u : offsetOf (rawIs 0) ≡ Known m = ap (λ (n : ℕ). offsetOf (rawIs n)) (sym z) ∙ e in
-    let y : _≡_ {A = ℕ} 0 1 = cc in
-    omega arith
 
 -- the fields of a date and a time, each below a bound
 pub fields-below : (b : ℕ) → 60 ≤ b → (u : Fields) → IsDateTime (timeIn u) → u .second ≤ 59 → Below b (u .month ∷ u .day ∷ u .hour ∷ u .minute ∷ u .second ∷ [])
