@@ -8,7 +8,7 @@ use borrow.Author.Tests.{eq-eqb, ne-eqb}
 use Rattle.ion.specs.Refusal.{digitsRefused, pairRefused}
 use Rattle.ion.specs.Word.{fieldsOf}
 use Rattle.ion.specs.Pair.{wordIn, pairIs, samePair}
-use Rattle.ion.specs.Build.{refusal, accepted, answer, numberOf, pairOf, buildOf}
+use Rattle.ion.specs.Build.{refusal, accepted, answer, numberOf, pairOf}
 use Rattle.ion.specs.Check.{rebuilt, sameAs, checkOf}
 use Rattle.ion.specs.Accepted.{Staged, Accepted}
 use Rattle.ion.specs.Stages.{Stage, Gives}
@@ -18,7 +18,7 @@ use Rattle.ion.specs.declared.Built.{Built}
 use Rattle.timestamp.proofs.Rebuilt.{check-digits, check-built}
 use Rattle.timestamp.proofs.Staging.{gives-staged}
 use Rattle.timestamp.proofs.Valid.{build-accepted, accepted-word}
-use Rattle.timestamp.proofs.Given.{rebuilt-staged, rebuilt-all, valid-builds}
+use Rattle.timestamp.proofs.Given.{rebuilt-staged, rebuilt-builds}
 
 -- the check answers 0 and the pair to every accepted timestamp
 pub check-accepts : (s : Timestamp) → Accepted s → checkOf s ≡ accepted s
@@ -26,8 +26,7 @@ check-accepts s t =
     let v = t .fields in
     let a = s .attoseconds in
     check-built s (v .digits)
-    ∙ ap (λ (b : BuilderFields). sameAs s (buildOf b)) (rebuilt-all v)
-    ∙ ap (sameAs s) (valid-builds v ∙ ap (λ (w : ℕ). accepted (pairIs w a)) (accepted-word t))
+    ∙ ap (sameAs s) (rebuilt-builds v ∙ ap (λ (w : ℕ). accepted (pairIs w a)) (accepted-word t))
     ∙ simp (eq-eqb (wordIn s) (wordIn s) refl, eq-eqb a a refl)
 
 pub check-zero : (s : Timestamp) → Accepted s → checkOf s .number ≡ 0

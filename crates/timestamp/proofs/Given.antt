@@ -108,7 +108,7 @@ allOf f a =
       digits = f .digits;
     }
 
-pub rebuilt-all : {f : Fields} {a : ℕ} → Valid f a → rebuilt f a ≡ allOf f a
+rebuilt-all : {f : Fields} {a : ℕ} → Valid f a → rebuilt f a ≡ allOf f a
 rebuilt-all {f} {a} v =
     let p = f .precision in
     let o = offset-same p (f .offset) (v .no-offset) in
@@ -188,5 +188,9 @@ all-pair {f} {a} v =
       offset = r i;
     })
 
-pub valid-builds : {f : Fields} {a : ℕ} → Valid f a → buildOf (allOf f a) ≡ accepted (pairIs (wordOf f) a)
+valid-builds : {f : Fields} {a : ℕ} → Valid f a → buildOf (allOf f a) ≡ accepted (pairIs (wordOf f) a)
 valid-builds v = ap₂ answer (all-number v) (all-pair v)
+
+-- what the check rebuilds of valid fields is built into their pair
+pub rebuilt-builds : {f : Fields} {a : ℕ} → Valid f a → buildOf (rebuilt f a) ≡ accepted (pairIs (wordOf f) a)
+rebuilt-builds v = ap buildOf (rebuilt-all v) ∙ valid-builds v

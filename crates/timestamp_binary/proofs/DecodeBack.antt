@@ -8,7 +8,7 @@ use borrow.Author.Tests.{lt-ltb}
 use lib.Dec.{lit≤, lit<}
 use lib.IntN.{ℤ, pos, negsuc, natAbs}
 use lib.ListN.{length, take, drop, length-append}
-use lib.Seq.{drop-at}
+use lib.Seq.{drop-at, drop-append-seam}
 use Rattle.places.proofs.Values.{Below, below-take}
 use Rattle.ion.specs.VarUInt.{varuint, groupCount, readVarUInt}
 use Rattle.ion.specs.VarInt.{signed, varint, isNegative, readVarInt}
@@ -35,18 +35,15 @@ signed-minutes : (z : ℤ) → signedOffset (isNegative z) (natAbs z) ≡ Known 
 signed-minutes (pos n) = refl
 signed-minutes (negsuc n) = refl
 
-after : (g : Bool) (m : ℕ) (r : List ℕ) → drop (length (signed g m)) (signed g m ++ r) ≡ r
-after g m r = drop-at (signed g m) r (length (signed g m)) refl
-
 pub offset-back : (o : Offset) (r : List ℕ) → WithinDay o → decodeOffset (offsetBytes o ++ r) ≡ found (o, r)
 unfolding decodeOffset offsetBytes varint
 offset-back Unknown r h =
     ap (offsetFrom (signed true 0 ++ r)) (read-signed 1439 true 0 r (lit≤ tt))
-    ∙ ap (λ (t : List ℕ). found (Unknown, t)) (after true 0 r)
+    ∙ ap (λ (t : List ℕ). found (Unknown, t)) (drop-append-seam (signed true 0) r)
 offset-back (Known m) r h =
     let z = m .0 in
     ap (offsetFrom (varint z ++ r)) (read-varint 1439 z r (omega arith))
-    ∙ ap₂ (λ (o : Offset) (t : List ℕ). found (o, t)) (signed-minutes z) (after (isNegative z) (natAbs z) r)
+    ∙ ap₂ (λ (o : Offset) (t : List ℕ). found (o, t)) (signed-minutes z) (drop-append-seam (signed (isNegative z) (natAbs z)) r)
 
 -- ---- the fields
 
@@ -93,7 +90,7 @@ fraction-back (suc d) c h l z = ap decodeFraction (fraction-bytes d c) ∙ go (s
     go (b ∷ s) e p =
         let n = length (signed true (suc d)) in
         let f : readVarInt 63 (b ∷ s) ≡ int.Value true (suc d) n = ap (readVarInt 63) (sym e) ∙ read-signed 63 true (suc d) (int c) h in
-        let k : readInt (drop n (b ∷ s)) ≡ magnitude.Value c = ap (λ (x : List ℕ). readInt (drop n x)) (sym e) ∙ ap readInt (after true (suc d) (int c)) ∙ read-int c l in
+        let k : readInt (drop n (b ∷ s)) ≡ magnitude.Value c = ap (λ (x : List ℕ). readInt (drop n x)) (sym e) ∙ ap readInt (drop-append-seam (signed true (suc d)) (int c)) ∙ read-int c l in
         ap (fractionFrom (b ∷ s)) f ∙ rw (lt-ltb 0 (suc d) (omega arith), k)
 
 -- ---- the whole

@@ -3,7 +3,7 @@ use mathlib.Core.Path.{_≡_, sym, ap, _∙_}
 use Prim.Native.Nat.{ℕ}
 use Rattle.ion.specs.Word.{wordOf}
 use Rattle.ion.specs.Pair.{wordIn, pairIs}
-use Rattle.ion.specs.Build.{accepted, buildOf}
+use Rattle.ion.specs.Build.{buildOf}
 use Rattle.ion.specs.Check.{rebuilt}
 use Rattle.ion.specs.Text.{fieldsText, textOf}
 use Rattle.ion.specs.Accepted.{Valid, Accepted}
@@ -12,12 +12,8 @@ use Rattle.ion.specs.declared.Timestamp.{Timestamp}
 use Rattle.ion.specs.declared.Built.{Built}
 use Rattle.packed.proofs.Words.{fields-inj}
 use Rattle.timestamp.proofs.Valid.{valid-in-range, accepted-word}
-use Rattle.timestamp.proofs.Given.{rebuilt-all, valid-builds}
+use Rattle.timestamp.proofs.Given.{rebuilt-builds}
 use Rattle.timestamp_text.proofs.ReadBack.{read-text}
-
--- what the check rebuilds of valid fields is built into their pair
-rebuilt-pair : {f : Fields} {a : ℕ} → Valid f a → buildOf (rebuilt f a) ≡ accepted (pairIs (wordOf f) a)
-rebuilt-pair v = ap buildOf (rebuilt-all v) ∙ valid-builds v
 
 module _ {f g : Fields} {a b : ℕ} (v : Valid f a) (w : Valid g b) (e : fieldsText f a ≡ fieldsText g b) where
   same-pair : pairIs (wordOf f) a ≡ pairIs (wordOf g) b
@@ -25,7 +21,7 @@ module _ {f g : Fields} {a b : ℕ} (v : Valid f a) (w : Valid g b) (e : fieldsT
       let p = read-text f a v in
       let q = read-text g b w in
       let r : rebuilt f a ≡ rebuilt g b = cc in
-      ap (λ (x : Built). x .stamp) (sym (rebuilt-pair v) ∙ ap buildOf r ∙ rebuilt-pair w)
+      ap (λ (x : Built). x .stamp) (sym (rebuilt-builds v) ∙ ap buildOf r ∙ rebuilt-builds w)
 
   -- valid fields and attoseconds with equal texts are equal
   pub fields-text-inj : (f ≡ g) × (a ≡ b)
