@@ -12,7 +12,8 @@ use lib.Dec.{leb, ltb, lit<}
 use lib.ListN.{length, drop}
 use Rattle.places.specs.Places.{plain, placesOn, valueFrom}
 use Rattle.places.proofs.Laws.{places-append, places-add, value-on}
-use Rattle.places.proofs.Values.{Below, place-more}
+use Rattle.places.proofs.Below.{Below}
+use Rattle.places.proofs.Values.{place-more}
 use Rattle.ion.specs.VarUInt.{groups, upTo, scanFrom}
 use Rattle.ion.specs.declared.VarUIntRead.the-variants.{Value, Bad}
 

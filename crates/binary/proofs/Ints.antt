@@ -13,7 +13,8 @@ use lib.Dec.{eqb, ltb, lit<}
 use lib.ListN.{length}
 use Rattle.places.specs.Places.{plain, places, placeCount, valueFrom}
 use Rattle.places.proofs.Laws.{length-places, count-zero, count-next, count-holds, count-least, value-places}
-use Rattle.places.proofs.Values.{Below, value-is, value-least, value-below}
+use Rattle.places.proofs.Below.{Below}
+use Rattle.places.proofs.Values.{value-is, value-least, value-below}
 use Rattle.places.proofs.Bits.{double-zeros}
 use Rattle.ion.specs.Int.{intCount, int, bigEndian, readInt}
 use Rattle.ion.specs.declared.IntRead.the-variants.{Value, Bad}

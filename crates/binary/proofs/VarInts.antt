@@ -17,7 +17,7 @@ use lib.ListN.{length, drop}
 use lib.Seq.{drop-append-seam}
 use Rattle.places.specs.Places.{placesOn}
 use Rattle.places.proofs.Laws.{held, place-monotone}
-use Rattle.places.proofs.Values.{Below, below-cons}
+use Rattle.places.proofs.Below.{Below, below-cons}
 use Rattle.places.proofs.Bits.{double-zeros}
 use Rattle.ion.specs.VarUInt.{groups, scanFrom}
 use Rattle.ion.specs.VarInt.{isNegative, signedCount, signFirst, signed, varint, ifShortest, unsign, readVarInt}

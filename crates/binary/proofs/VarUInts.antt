@@ -14,7 +14,7 @@ use lib.ListN.{length, drop, length-append}
 use lib.Seq.{drop-append-seam}
 use Rattle.places.specs.Places.{placesOn}
 use Rattle.places.proofs.Laws.{held, fewest, place-some, place-monotone, place-is}
-use Rattle.places.proofs.Values.{Below}
+use Rattle.places.proofs.Below.{Below}
 use Rattle.places.proofs.Bits.{zeros-places}
 use Rattle.ion.specs.VarUInt.{groups, groupCount, varuint, scanFrom, zeroFirst, readVarUInt}
 use Rattle.ion.specs.declared.VarUIntRead.the-variants.{Value, Bad}

@@ -30,7 +30,7 @@ negated-is z h =
     let m = pos 0 -ℤ z in
     omega (arith, natAbs-parts z, lt-parts z (pos 0) h, sub-parts (pos 0) z, apart z, apart m)
 
--- a number below 0, and one nearer to it: that fits where the number does, and so does its opposite, whatever the lowest
+-- a number below 0, moved one nearer to it: it fits, and its opposite fits even where the number is the lowest
 pub nearer-fits : (w : Width) (z : ℤ) → SFits w z → ltZ z (pos 0) ≡ true → SFits w (z +ℤ pos 1)
 nearer-fits w z f h =
     let s = z +ℤ pos 1 in

@@ -1,9 +1,7 @@
 -- Bytes put into a buffer, one run after another, and stores from the front and from the back. Assumes nothing.
 use mathlib.Core.Path.{_≡_, refl, sym, ap, ap₂, _∙_}
-use mathlib.Core.Bool.{true, false}
-use mathlib.Core.List.{List, [], _∷_, _++_, append-assoc}
-use Prim.Native.Nat.{ℕ, zero, suc, _+_, _-_, _≤_, _<_}
-use native.Mathlib.Nat.{add-zero}
+use mathlib.Core.List.{List, [], _++_, append-assoc}
+use Prim.Native.Nat.{ℕ, _+_, _-_, _≤_, _<_}
 use native.Mathlib.Numerals.{add-one}
 use native.Mathlib.Omega.{arith}
 use native.Mathlib.Decide.{decLe}
@@ -12,7 +10,7 @@ use lib.ListN.{length, take, drop, set, getD, length-append, length-drop, take-a
 use lib.Seq.{take-at, drop-at, drop-drop, length-take-le, paste, paste-suc, take-length}
 use Rattle.places.specs.Places.{placesOn, places}
 use Rattle.places.proofs.Laws.{places-append, length-places}
-use Rattle.ion.specs.Output.{over, put, roomFor, wrote, putAfter, wroteAfter, refusedWriting, Run}
+use Rattle.ion.specs.Output.{over, put, roomFor, wrote, putAfter, wroteAfter, refusedWriting}
 use Rattle.ion.specs.Refusal.{shortBuffer}
 use Rattle.ion.specs.declared.Written.{Written}
 

@@ -9,7 +9,7 @@ use lib.Dec.{lit≤, lit<}
 use lib.IntN.{ℤ, pos, negsuc, natAbs}
 use lib.ListN.{length, take, drop, length-append}
 use lib.Seq.{drop-at, drop-append-seam}
-use Rattle.places.proofs.Values.{Below, below-take}
+use Rattle.places.proofs.Below.{Below, below-take}
 use Rattle.ion.specs.VarUInt.{varuint, groupCount, readVarUInt}
 use Rattle.ion.specs.VarInt.{signed, varint, isNegative, readVarInt}
 use Rattle.ion.specs.Int.{int, readInt}

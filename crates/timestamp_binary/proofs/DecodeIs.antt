@@ -7,7 +7,7 @@ use native.Mathlib.Omega.{arith}
 use borrow.Author.Tests.{ltb-true}
 use lib.Dec.{ltb, lit<}
 use lib.ListN.{length, take, drop}
-use Rattle.places.proofs.Values.{Below, below-none, below-cons, below-append, below-drop, below-after, each-below}
+use Rattle.places.proofs.Below.{Below, below-none, below-cons, below-append, below-drop, below-after, each-below}
 use Rattle.ion.specs.VarUInt.{varuint, readVarUInt}
 use Rattle.ion.specs.VarInt.{signed, varint, readVarInt}
 use Rattle.ion.specs.Int.{int, readInt}

@@ -8,7 +8,7 @@ use borrow.Author.Tests.{le-leb, lt-leb}
 use lib.Dec.{leb, lit<}
 use lib.IntN.{natAbs}
 use lib.ListN.{length, take, length-append, length-take}
-use Rattle.places.proofs.Values.{Below, below-take}
+use Rattle.places.proofs.Below.{Below, below-take}
 use Rattle.ion.specs.VarUInt.{groups, varuint, groupCount}
 use Rattle.ion.specs.VarInt.{signed, varint, isNegative}
 use Rattle.ion.specs.Int.{int}

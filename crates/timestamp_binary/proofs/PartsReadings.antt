@@ -6,7 +6,7 @@ use mathlib.Core.Logic.{inl, inr}
 use Prim.Native.Nat.{ℕ, _≤_}
 use borrow.Author.Tests.{eqb-true}
 use lib.Dec.{eqb}
-use Rattle.places.proofs.Values.{Below}
+use Rattle.places.proofs.Below.{Below}
 use Rattle.ion.specs.Refusal.{bodyRefused}
 use Rattle.ion.specs.Pair.{wordIn}
 use Rattle.ion.specs.Word.{fieldsOf}

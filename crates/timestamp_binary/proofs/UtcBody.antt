@@ -7,7 +7,7 @@ use native.Mathlib.Omega.{arith}
 use lib.Dec.{lit≤}
 use lib.IntN.{natAbs, negℤ}
 use Rattle.integers.proofs.Parts.{down}
-use Rattle.places.proofs.Values.{Below, below-cons, each-below}
+use Rattle.places.proofs.Below.{Below, below-cons, each-below}
 use Rattle.ion.specs.Offset.{rawIs, offsetOf, rawOf}
 use Rattle.ion.specs.Shift.{IsDateTime, minuteNumber, shifted}
 use Rattle.ion.specs.Fraction.{scale}

@@ -7,7 +7,7 @@ use Prim.Native.Nat.{ℕ, _+_, _-_, _≤_}
 use native.Mathlib.Omega.{arith}
 use lib.ListN.{length, take, drop, length-set, length-drop, drop-of-length-le}
 use lib.Seq.{drop-length}
-use Rattle.places.proofs.Values.{below-drop}
+use Rattle.places.proofs.Below.{below-drop}
 use Rattle.ion.specs.Decode.{Decoded, nothing, fieldFrom, decodeFields}
 use Rattle.ion.specs.declared.VarUIntRead.{VarUIntRead}
 use Rattle.binary.proofs.VarUInts.{read-is, read-within}

@@ -7,7 +7,7 @@ use Prim.Native.Nat.{ℕ, _+_, _≤_, _<_}
 use native.Mathlib.Omega.{arith}
 use lib.ListN.{length, drop, length-drop, drop-of-length-le}
 use lib.Seq.{drop-drop}
-use Rattle.places.proofs.Values.{below-drop}
+use Rattle.places.proofs.Below.{below-drop}
 use Rattle.ion.specs.VarInt.{readVarInt}
 use Rattle.ion.specs.Int.{readInt}
 use Rattle.ion.specs.Decode.{nothing, coefficientFrom, fractionFrom, decodeFraction}

@@ -1,7 +1,7 @@
 -- `reader::read_body` meets its contract. Assumes nothing.
 use borrow.Author.Needs.{needs}
 use mathlib.Core.Path.{_≡_, sym, ap, _∙_}
-use Rattle.places.proofs.Values.{Below}
+use Rattle.places.proofs.Below.{Below}
 use Rattle.ion.specs.Decode.{found, decodeBody}
 use Rattle.timestamp_binary.specs.Parsed.{bodyIn}
 use Rattle.timestamp_binary.proofs.DecodeIs.{body-is}
