@@ -90,9 +90,9 @@ fn flag(byte: u8) -> bool {
 
 /// A call that gives a pair. The numbers begin as ones, so that a call that sets nothing shows.
 fn built(call: impl FnOnce(&mut u64, &mut u64) -> u32) -> Built {
-    let mut pair = Pair { word: u64::MAX, attoseconds: u64::MAX };
-    let number = call(&mut pair.word, &mut pair.attoseconds);
-    Built { number, pair }
+    let (mut word, mut attoseconds) = (u64::MAX, u64::MAX);
+    let number = call(&mut word, &mut attoseconds);
+    Built { number, pair: Pair { word, attoseconds } }
 }
 
 fn ordered(call: impl FnOnce(&mut i32) -> u32) -> Ordered {

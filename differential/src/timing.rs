@@ -115,14 +115,12 @@ struct Row {
     library: Option<f64>,
 }
 
-/// The Rust's times, and a library's where one is given.
-pub fn run<L: Library>(library: Option<&L>, seed: u64) {
+/// The Rust's times and a library's.
+pub fn run<L: Library>(library: &L, seed: u64) {
     let inputs = inputs(seed);
     let mut rows = rust_rows(&inputs);
-    if let Some(library) = library {
-        for row in &mut rows {
-            row.library = library_time(library, &inputs, row.name);
-        }
+    for row in &mut rows {
+        row.library = library_time(library, &inputs, row.name);
     }
     println!("ns a call, best of {RUNS} runs of {} calls; seed {seed}", PASSES * INPUTS);
     println!("{:<14} {:>15} {:>10} {:>9} {:>7}", "call", "Rust and check", "Rust bare", "library", "ratio");

@@ -41,6 +41,12 @@ offsetIs Unknown = offset.Unknown
 offsetIs (FromLocalFields m) = offset.Known m
 offsetIs (FromUtcFields m) = offset.Known m
 
+-- whether the fields are UTC's
+abbrev pub isUtc : BuilderOffset → Bool
+isUtc Unknown = false
+isUtc (FromLocalFields m) = false
+isUtc (FromUtcFields m) = true
+
 -- a known offset of a day or more
 abbrev pub outside : BuilderOffset → Bool
 outside Unknown = false

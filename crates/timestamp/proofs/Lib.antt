@@ -9,5 +9,6 @@ pub mod Given
 pub mod Accepts
 pub mod Decides
 pub mod Tested
+pub mod Masked
 pub mod UtcForm
 pub mod Told

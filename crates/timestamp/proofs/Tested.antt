@@ -37,7 +37,7 @@ abbrev pub validTest : Fields → ℕ → Bool
 validTest f a = boundsTest f && firstTest f && ltb a (10 ^ 18) && isDate (dateIn f) && eqb (a % scale (f .digits)) 0
 
 -- each test with the fact that it decides, in that order
-abbrev Bounds : Fields → Type 0
+abbrev pub Bounds : Fields → Type 0
 Bounds f =
     (((((((1 ≤ f .year) × (f .year ≤ 9999)) × (f .hour ≤ 23)) × (f .minute ≤ 59)) × (f .second ≤ 59)) × (f .precision ≤ 4)) × (f .digits ≤ 18))
     × (f .offset .0 < 2880)
@@ -49,7 +49,7 @@ First f =
     × (f .precision < 3 → ((f .hour ≡ 0) × (f .minute ≡ 0)) × (f .offset .0 ≡ 0)))
     × (f .precision < 4 → (f .second ≡ 0) × (f .digits ≡ 0))
 
-bounds-decides : (f : Fields) → Decides (boundsTest f) (Bounds f)
+pub bounds-decides : (f : Fields) → Decides (boundsTest f) (Bounds f)
 bounds-decides f =
     le-decides 1 (f .year)
     and le-decides (f .year) 9999

@@ -5,28 +5,48 @@ use ion::Fields;
 use ion::Timestamp;
 ghost use mathlib.Core.Path.{_≡_};
 ghost use mathlib.Core.Bool.{true, _&&_, _||_};
-ghost use Prim.Native.Nat.{_%_, _^_, _<_};
+ghost use Prim.Native.Nat.{_+_, _%_, _^_, _<_};
+ghost use lib.Bits.{bitAnd};
 ghost use lib.Dec.{eqb, leb, ltb};
+ghost use Rattle.ion.specs.Word.{fieldsOf};
 ghost use Rattle.ion.specs.Fraction.{scale};
 ghost use Rattle.ion.specs.Check.{checkOf};
 ghost use Rattle.ion.specs.Accepted.{Valid};
 
-// Whether each field but the month and the day is in its bounds.
-fn in_bounds(f: Fields) -> bool
-    ensures { λ r. ⌜ r ≡ (leb 1 (f .year) && leb (f .year) 9999
-        && leb (f .hour) 23 && leb (f .minute) 59 && leb (f .second) 59
-        && leb (f .precision) 4 && leb (f .digits) 18 && ltb (f .offset .0) 2880) ⌝ }
+// Hour, second and digits: another field stands above each.
+const MASKS: u64 = (31 << 36) | (63 << 24) | (31 << 16);
+
+// What the largest value of each lacks of its width, so that one beyond it reaches the bit above.
+const ROOMS: u64 = (8 << 36) | (4 << 24) | (13 << 16);
+
+// These bits.
+const OVERS: u64 = (32 << 36) | (64 << 24) | (32 << 16);
+
+// The same of minute, precision and offset.
+const OTHER_MASKS: u64 = (63 << 30) | (7 << 21) | (4095 << 4);
+
+const OTHER_ROOMS: u64 = (4 << 30) | (3 << 21) | (1216 << 4);
+
+const OTHER_OVERS: u64 = (64 << 30) | (8 << 21) | (4096 << 4);
+
+// Whether no field of the masks reaches the bit above it.
+fn none_beyond(w: u64, masks: u64, rooms: u64, overs: u64) -> bool
+    requires { ⌜ masks + rooms < 2 ^ 64 ⌝ }
+    ensures { λ r. ⌜ r ≡ eqb (bitAnd (bitAnd w masks + rooms) overs) 0 ⌝ }
 {
-    let offset = f.offset;
-    let raw = offset.bits();
-    (1 <= f.year)
-        & (f.year <= 9999)
-        & (f.hour <= 23)
-        & (f.minute <= 59)
-        & (f.second <= 59)
-        & (f.precision <= 4)
-        & (f.digits <= 18)
-        & (raw < 2880)
+    ((w & masks) + rooms) & overs == 0
+}
+
+// Whether each field but the month and the day is in its bounds; the fields of a mask are tested all at once.
+fn in_bounds(w: u64) -> bool
+    ensures { λ r. ⌜ r ≡ (leb 1 (fieldsOf w .year) && leb (fieldsOf w .year) 9999
+        && leb (fieldsOf w .hour) 23 && leb (fieldsOf w .minute) 59 && leb (fieldsOf w .second) 59
+        && leb (fieldsOf w .precision) 4 && leb (fieldsOf w .digits) 18 && ltb (fieldsOf w .offset .0) 2880) ⌝ }
+{
+    (1 << 50 <= w)
+        & (w < 10_000 << 50)
+        & none_beyond(w, MASKS, ROOMS, OVERS)
+        & none_beyond(w, OTHER_MASKS, OTHER_ROOMS, OTHER_OVERS)
 }
 
 // Whether each field that the precision does not have has its first value.
@@ -36,12 +56,15 @@ fn has_first_values(f: Fields) -> bool
         && (leb 3 (f .precision) || (eqb (f .hour) 0 && eqb (f .minute) 0 && eqb (f .offset .0) 0))
         && (leb 4 (f .precision) || (eqb (f .second) 0 && eqb (f .digits) 0))) ⌝ }
 {
+    if 4 <= f.precision {
+        return true;
+    }
     let offset = f.offset;
     let raw = offset.bits();
     ((1 <= f.precision) | (f.month == 1))
         & ((2 <= f.precision) | (f.day == 1))
         & ((3 <= f.precision) | ((f.hour == 0) & (f.minute == 0) & (raw == 0)))
-        & ((4 <= f.precision) | ((f.second == 0) & (f.digits == 0)))
+        & ((f.second == 0) & (f.digits == 0))
 }
 
 // Whether a fraction has no more than its digits. Only one that has some and not all 18 is divided.
@@ -61,10 +84,11 @@ fn is_multiple(attoseconds: u64, digits: u32) -> bool
     attoseconds % fraction::scale(digits as u64) == 0
 }
 
-fn is_valid(f: Fields, attoseconds: u64) -> bool
-    ensures { λ r. ⌜ (r ≡ true → Valid f attoseconds) × (Valid f attoseconds → r ≡ true) ⌝ }
+fn is_valid(w: u64, attoseconds: u64) -> bool
+    ensures { λ r. ⌜ (r ≡ true → Valid (fieldsOf w) attoseconds) × (Valid (fieldsOf w) attoseconds → r ≡ true) ⌝ }
 {
-    if !(in_bounds(f) & has_first_values(f) & (attoseconds < 1_000_000_000_000_000_000)) {
+    let f = packed::unpack(w);
+    if !(in_bounds(w) & has_first_values(f) & (attoseconds < 1_000_000_000_000_000_000)) {
         return false;
     }
     let date = Date {
@@ -86,5 +110,5 @@ pub fn is_accepted(s: Timestamp) -> bool
     if word % 16 != 0 {
         return false;
     }
-    is_valid(packed::unpack(word), s.attoseconds)
+    is_valid(word, s.attoseconds)
 }

@@ -5,10 +5,11 @@ use crate::utc_route::build_utc;
 use ion::BuilderFields;
 use ion::BuilderOffset;
 use ion::Built;
+use ion::offset;
 use ion::offset::Offset;
 use ion::refusal;
 ghost use mathlib.Core.Path.{_≡_};
-ghost use Rattle.ion.specs.Build.{outside, firstOf, ranges, buildOf};
+ghost use Rattle.ion.specs.Build.{offsetIs, isUtc, outside, firstOf, ranges, buildOf};
 
 // Whether an offset is known and a day or more.
 fn is_outside(o: BuilderOffset) -> bool
@@ -18,6 +19,28 @@ fn is_outside(o: BuilderOffset) -> bool
         BuilderOffset::Unknown => false,
         BuilderOffset::FromLocalFields(m) => !m.is_offset(),
         BuilderOffset::FromUtcFields(m) => !m.is_offset(),
+    }
+}
+
+// The offset of a timestamp that is built.
+fn offset_is(o: BuilderOffset) -> Offset
+    ensures { λ r. ⌜ r ≡ offsetIs o ⌝ }
+{
+    match o {
+        BuilderOffset::Unknown => Offset::Unknown,
+        BuilderOffset::FromLocalFields(m) => Offset::Known(m),
+        BuilderOffset::FromUtcFields(m) => Offset::Known(m),
+    }
+}
+
+// Whether the fields are UTC's.
+fn is_utc(o: BuilderOffset) -> bool
+    ensures { λ r. ⌜ r ≡ isUtc o ⌝ }
+{
+    match o {
+        BuilderOffset::Unknown => false,
+        BuilderOffset::FromLocalFields(m) => false,
+        BuilderOffset::FromUtcFields(m) => true,
     }
 }
 
@@ -73,9 +96,9 @@ pub fn build(f: BuilderFields) -> Built
         return refused(n);
     }
     let offset = f.offset;
-    match offset {
-        BuilderOffset::Unknown => build_local(f, Offset::Unknown),
-        BuilderOffset::FromLocalFields(m) => build_local(f, Offset::Known(m)),
-        BuilderOffset::FromUtcFields(m) => build_utc(f, m),
+    let o = offset_is(offset);
+    if is_utc(offset) {
+        return build_utc(f, offset::minutes_of(o));
     }
+    build_local(f, o)
 }

@@ -1,13 +1,11 @@
 -- `timestamp::accepted::is_accepted` meets its contract. Assumes nothing.
-use mathlib.Core.Path.{sym, subst}
+use mathlib.Core.Path.{sym}
 use Prim.Native.Nat.{_^_, _<_}
 use lib.Dec.{eqb}
 use borrow.Author.Needs.{needs}
 use Rattle.ion.specs.Pair.{wordIn}
 use Rattle.ion.specs.Check.{checkOf}
-use Rattle.ion.specs.Accepted.{Valid}
-use Rattle.ion.specs.declared.Fields.{Fields}
-use Rattle.timestamp.proofs.Decides.{Decides, decides-same}
+use Rattle.timestamp.proofs.Decides.{decides-same}
 use Rattle.timestamp.proofs.Tested.{accepted-decides, reserved-refused}
 use Rattle.timestamp.proofs.accepted.is_accepted.Statement.{statement}
 use Rattle.timestamp.proofs.accepted.is_accepted.Tie as tie
@@ -20,10 +18,9 @@ fits c = search needs
 
 returns-2 : tie.Need-returns-2
 returns-2 c =
-    let e1 = c .before .before in
+    let e1 = c .before in
     let s = e1 .before .args .s in
-    let d = subst (λ (f : Fields). Decides (c .is-valid .result) (Valid f (s .attoseconds))) (c .before .unpack .ensures) (c .is-valid .ensures) in
-    decides-same (c .is-valid .result) (eqb (checkOf s .number) 0) d (accepted-decides s (fits e1) (e1 .if1 .left))
+    decides-same (c .is-valid .result) (eqb (checkOf s .number) 0) (c .is-valid .ensures) (accepted-decides s (fits e1) (e1 .if1 .left))
 
 pub is-accepted-spec : {M : Type 1} → statement M
-is-accepted-spec = tie.close (tie.spec returns (λ c κs. search needs) (λ c κs. search needs) returns-2)
+is-accepted-spec = tie.close (tie.spec returns (λ c κs. search needs) returns-2)

@@ -6,6 +6,7 @@ use lib.Dec.{eqb, ltb}
 use borrow.Author.Needs.{needs}
 use borrow.Author.Tests.{ltb-true, not-true, not-false}
 use Rattle.ion.specs.Calendar.{isDate}
+use Rattle.ion.specs.Word.{fieldsOf}
 use Rattle.ion.specs.Fraction.{scale}
 use Rattle.ion.specs.Accepted.{Valid, dateIn}
 use Rattle.ion.specs.declared.Fields.{Fields}
@@ -22,47 +23,55 @@ decided {f} {a} e = subst (λ (b : Bool). Decides b (Valid f a)) e (valid-decide
 abbrev headTest : Fields → ℕ → Bool
 headTest f a = boundsTest f && firstTest f && ltb a (10 ^ 18)
 
-head : (c : tie.After-has-first-values) → let s = c .before .before in headTest (s .args .f) (s .args .attoseconds) ≡ (c .before .in-bounds .result && c .has-first-values .result && ltb (s .args .attoseconds) (10 ^ 18))
-head c = sym (ap₂ (λ (p q : Bool). p && q && ltb (c .before .before .args .attoseconds) (10 ^ 18)) (c .before .in-bounds .ensures) (c .has-first-values .ensures))
+head : (c : tie.After-has-first-values) → let s = c .before .before .before in headTest (fieldsOf (s .args .w)) (s .args .attoseconds) ≡ (c .before .in-bounds .result && c .has-first-values .result && ltb (s .args .attoseconds) (10 ^ 18))
+head c =
+    let u = c .before .before in
+    sym (ap₂ (λ (p q : Bool). p && q && ltb (u .before .args .attoseconds) (10 ^ 18)) (c .before .in-bounds .ensures) (c .has-first-values .ensures ∙ ap firstTest (u .unpack .ensures)))
 
-passed : (c : tie.Else1) → let s = c .before .before .before in headTest (s .args .f) (s .args .attoseconds) ≡ true
+passed : (c : tie.Else1) → let s = c .before .before .before .before in headTest (fieldsOf (s .args .w)) (s .args .attoseconds) ≡ true
 passed c = head (c .before) ∙ not-false _ (c .if1 .left)
 
 returns : tie.Need-returns
 returns c =
-    let s = c .before .before .before in
-    let f = s .args .f in
+    let s = c .before .before .before .before in
+    let f = fieldsOf (s .args .w) in
     let a = s .args .attoseconds in
     decided (ap (λ (b : Bool). b && isDate (dateIn f) && eqb (a % scale (f .digits)) 0) (head (c .before) ∙ not-true _ (c .if1 .taken)))
+
+-- the date that was tested
+date : (c : tie.After-is-date) → let s = c .before .before .before .before .before in isDate (dateIn (fieldsOf (s .args .w))) ≡ c .is-date .result
+date c = sym (c .is-date .ensures ∙ ap (λ (f : Fields). isDate (dateIn f)) (c .before .before .before .before .unpack .ensures))
 
 returns-2 : tie.Need-returns-2
 returns-2 c =
     let e1 = c .before .before in
-    let s = e1 .before .before .before in
-    let f = s .args .f in
+    let s = e1 .before .before .before .before in
+    let f = fieldsOf (s .args .w) in
     let a = s .args .attoseconds in
-    decided (ap₂ (λ (b d : Bool). b && d && eqb (a % scale (f .digits)) 0) (passed e1) (sym (c .before .is-date .ensures) ∙ not-true _ (c .if2 .taken)))
+    decided (ap₂ (λ (b d : Bool). b && d && eqb (a % scale (f .digits)) 0) (passed e1) (date (c .before) ∙ not-true _ (c .if2 .taken)))
 
 is-multiple-requires : tie.Need-is-multiple-requires
 is-multiple-requires c κs =
     let e1 = c .before .before in
-    let s = e1 .before .before .before in
+    let s = e1 .before .before .before .before in
+    let f = fieldsOf (s .args .w) in
     let a = s .args .attoseconds in
-    ltb-true a (10 ^ 18) (and-eq-true-iff (boundsTest (s .args .f) && firstTest (s .args .f)) (ltb a (10 ^ 18)) .0 (passed e1) .1)
+    ltb-true a (10 ^ 18) (and-eq-true-iff (boundsTest f && firstTest f) (ltb a (10 ^ 18)) .0 (passed e1) .1)
 
 returns-3 : tie.Need-returns-3
 returns-3 c =
     let e2 = c .before in
     let e1 = e2 .before .before in
-    let s = e1 .before .before .before in
-    let f = s .args .f in
+    let s = e1 .before .before .before .before in
+    let f = fieldsOf (s .args .w) in
     let a = s .args .attoseconds in
-    decided (ap₂ (λ (b d : Bool). b && d && eqb (a % scale (f .digits)) 0) (passed e1) (sym (e2 .before .is-date .ensures) ∙ not-false _ (e2 .if2 .left)) ∙ sym (c .is-multiple .ensures))
+    decided (ap₂ (λ (b d : Bool). b && d && eqb (a % scale (f .digits)) 0) (passed e1) (date (e2 .before) ∙ not-false _ (e2 .if2 .left)) ∙ sym (c .is-multiple .ensures ∙ ap (λ (g : Fields). eqb (a % scale (g .digits)) 0) (e1 .before .before .before .unpack .ensures)))
 
 pub is-valid-spec : {M : Type 1} → statement M
 is-valid-spec =
     tie.close
     (tie.spec
+    (λ c κs. search needs)
     (λ c κs. search needs)
     (λ c κs. search needs)
     returns

@@ -1,13 +1,13 @@
 -- `timestamp::building::build` meets its contract. Assumes nothing.
 use mathlib.Core.Path.{_≡_, sym, ap, subst, _∙_}
 use borrow.Author.Needs.{needs}
-use Rattle.ion.specs.Offset.{WithinDay}
-use Rattle.ion.specs.declared.BuilderOffset.{BuilderOffset}
-use Rattle.ion.specs.Build.{ranges, offsetIs, refusal, buildOf}
+use Rattle.ion.specs.Offset.{WithinDay, minutesIs, minutesOf}
+use Rattle.ion.specs.Build.{firstOf, ranges, offsetIs, localChecks, givenTime, pairAt, refusal, answer, buildOf}
 use Rattle.ion.specs.Accepted.{InBounds}
+use Rattle.ion.specs.declared.offset.Offset.{Offset}
 use Rattle.timestamp.proofs.Checks.{AllPass}
 use Rattle.timestamp.proofs.Bounds.{in-bounds}
-use Rattle.timestamp.proofs.Routes.{ranges-pass, routed, build-routed, build-refused}
+use Rattle.timestamp.proofs.Routes.{ranges-pass, routed-local, routed-utc, within-utc, build-routed, build-refused}
 use Rattle.timestamp.proofs.building.build.Statement.{statement}
 use Rattle.timestamp.proofs.building.build.Tie as tie
 
@@ -23,30 +23,42 @@ passed c = ranges-pass (c .before .before .args .f) (sym (c .before .check-range
 bounds : (c : tie.Else1) → InBounds (c .before .before .args .f)
 bounds c = in-bounds (c .before .before .args .f) (passed c)
 
--- the offset, of the kind that the match found
-within : (c : tie.Else1) {o : BuilderOffset} → c .before .before .args .f .offset ≡ o → WithinDay (offsetIs o)
-within c e = subst (λ (o : BuilderOffset). WithinDay (offsetIs o)) e (bounds c .offset)
+-- the offset is less than a day
+within : (c : tie.Else1) → WithinDay (offsetIs (c .before .before .args .f .offset))
+within c = bounds c .offset
 
-told : (c : tie.Else1) {o : BuilderOffset} → c .before .before .args .f .offset ≡ o → routed (c .before .before .args .f) o ≡ buildOf (c .before .before .args .f)
-told c e = let f = c .before .before .args .f in sym (build-routed f (passed c) ∙ ap (routed f) e)
-
-build-local-requires : tie.Need-build-local-requires
-build-local-requires c κs = (bounds (c .before .before), tt)
-
-build-local-requires-2 : tie.Need-build-local-requires-2
-build-local-requires-2 c κs = let e1 = c .before .before .before in (bounds e1, within e1 (c .before .offset .given .1))
+-- the minutes of an offset that moves UTC fields
+minutes : (c : tie.After-minutes-of) → c .minutes-of .result ≡ minutesIs (minutesOf (offsetIs (c .before .before .before .before .before .before .args .f .offset)))
+minutes c = c .minutes-of .ensures ∙ ap (λ (o : Offset). minutesIs (minutesOf o)) (c .before .before .before .offset-is .ensures)
 
 build-utc-requires : tie.Need-build-utc-requires
-build-utc-requires c κs = let e1 = c .before .before .before in (bounds e1, within e1 (c .before .offset2 .given .1))
+build-utc-requires c κs =
+    let a = c .before .before in
+    let e1 = a .before .before in
+    (bounds e1, within-utc (e1 .before .before .args .f .offset) (sym (a .is-utc .ensures) ∙ c .before .if2 .taken) (within e1) (c .minutes-of .result) (minutes c))
 
 returns-2 : tie.Need-returns-2
-returns-2 c = c .build-local .ensures ∙ told (c .before .before .before) (c .before .enum-told .given .1)
+returns-2 c =
+    let a = c .before .before .before in
+    let e1 = a .before .before in
+    let f = e1 .before .before .args .f in
+    c .build-utc .ensures
+    ∙ sym (build-routed f (passed e1) ∙ routed-utc f (f .offset) (sym (a .is-utc .ensures) ∙ c .before .before .if2 .taken) (c .before .minutes-of .result) (minutes (c .before)))
+
+build-local-requires : tie.Need-build-local-requires
+build-local-requires c κs =
+    let a = c .before .before in
+    let e1 = a .before in
+    (bounds e1, subst WithinDay (sym (a .offset-is .ensures)) (within e1))
 
 returns-3 : tie.Need-returns-3
-returns-3 c = c .build-local2 .ensures ∙ told (c .before .before .before .before) (c .before .before .offset .given .1)
-
-returns-4 : tie.Need-returns-4
-returns-4 c = c .build-utc .ensures ∙ told (c .before .before .before .before) (c .before .before .offset2 .given .1)
+returns-3 c =
+    let a = c .before .before in
+    let e1 = a .before .before in
+    let f = e1 .before .before .args .f in
+    c .build-local .ensures
+    ∙ ap (λ (o : Offset). answer (firstOf (localChecks f)) (pairAt f (givenTime f) o)) (a .before .offset-is .ensures)
+    ∙ sym (build-routed f (passed e1) ∙ routed-local f (f .offset) (sym (a .is-utc .ensures) ∙ c .before .if2 .left))
 
 pub build-spec : {M : Type 1} → statement M
 build-spec =
@@ -55,12 +67,10 @@ build-spec =
     (λ c κs. search needs)
     (λ c κs. search needs)
     returns
-    (λ c. search needs)
-    build-local-requires
-    (λ c. search needs)
-    build-local-requires-2
-    (λ c. search needs)
+    (λ c κs. search needs)
+    (λ c κs. search needs)
+    (λ c κs. search needs)
     build-utc-requires
     returns-2
-    returns-3
-    returns-4)
+    build-local-requires
+    returns-3)
