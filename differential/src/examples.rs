@@ -1,4 +1,5 @@
-//! Examples that do not come from the Rust: document 01's own, and others worked by hand from its rules.
+//! Examples that do not come from the Rust: document 01's own, the Ion specification's, and one worked by hand from
+//! document 01's rules.
 
 use crate::calls::{Build, Fraction, Offset, Stage};
 
@@ -9,19 +10,24 @@ pub enum Source {
     Numbered,
     /// Document 01: the others of that section, and sentences with a number of their own.
     Others,
-    /// Worked by hand from document 01's rules of text, value bytes, order and reading. The bytes: an offset of 0 is 80, an
-    /// unknown one C0; the year 2000 is 15 * 128 + 80, so 0F D0; each other field is 80 more; an exponent of minus one is
-    /// C1; a coefficient of zero is no byte.
+    /// The Ion 1.0 specification, section "Timestamp": texts, and which of them are one instant.
+    IonText,
+    /// The Ion 1.0 binary encoding, section "6: Timestamp": values of 2000-01-01T00:00:00, with and without a fraction.
+    IonBinary,
+    /// Worked by hand from document 01's rule of value bytes: an unknown offset is C0; the year 2000 is 15 * 128 + 80, so
+    /// 0F D0.
     ByHand,
 }
 
 impl Source {
-    pub const ALL: [Source; 3] = [Source::Numbered, Source::Others, Source::ByHand];
+    pub const ALL: [Source; 5] = [Source::Numbered, Source::Others, Source::IonText, Source::IonBinary, Source::ByHand];
 
     pub fn name(self) -> &'static str {
         match self {
             Source::Numbered => "document 01, P1 to P12",
             Source::Others => "document 01, other examples",
+            Source::IonText => "Ion 1.0 specification, Timestamp",
+            Source::IonBinary => "Ion 1.0 binary encoding, 6: Timestamp",
             Source::ByHand => "worked by hand from document 01",
         }
     }
@@ -82,7 +88,7 @@ const fn in_2007(hour: u32, offset: Offset) -> Build {
     second.fraction(Fraction::Milliseconds(79)).offset(offset)
 }
 
-use Source::{ByHand, Numbered, Others};
+use Source::{ByHand, IonBinary, IonText, Numbered, Others};
 
 pub const EXAMPLES: [Example; 38] = [
     accepted(Numbered, Build::year(1), "0001T", &[0x62, 0xC0, 0x81]),
@@ -132,39 +138,39 @@ pub const EXAMPLES: [Example; 38] = [
     accepted(Others, Build::day(2020, 2, 3), "2020-02-03T", &[]),
     refused(Others, Build { month0: true, ..month(2020, u32::MAX) }, 3),
     refused(Others, Build { day0: true, ..Build::day(2020, 1, u32::MAX) }, 4),
-    accepted(ByHand, Build::day(2007, 2, 23).minute(12, 14).offset(Offset::Local(0)), "2007-02-23T12:14+00:00", &[]),
-    accepted(ByHand, in_2007(12, Offset::Local(-480)), "2007-02-23T12:14:33.079-08:00", &[]),
-    accepted(ByHand, in_2007(20, Offset::Local(0)), "2007-02-23T20:14:33.079+00:00", &[]),
-    accepted(ByHand, in_2007(20, Offset::None), "2007-02-23T20:14:33.079-00:00", &[]),
-    accepted(ByHand, Build::day(2007, 1, 1).minute(0, 0), "2007-01-01T00:00-00:00", &[]),
-    accepted(ByHand, Build::day(2007, 1, 1), "2007-01-01T", &[]),
-    accepted(ByHand, month(2007, 1), "2007-01T", &[]),
-    accepted(ByHand, Build::year(2007), "2007T", &[]),
-    accepted(ByHand, Build::day(2007, 2, 23), "2007-02-23T", &[]),
-    accepted(ByHand, Build::day(2007, 2, 23).minute(0, 0).offset(Offset::Local(0)), "2007-02-23T00:00+00:00", &[]),
-    accepted(ByHand, Build::day(2007, 2, 23).second(0, 0, 0), "2007-02-23T00:00:00-00:00", &[]),
+    accepted(IonText, Build::day(2007, 2, 23).minute(12, 14).offset(Offset::Local(0)), "2007-02-23T12:14+00:00", &[]),
+    accepted(IonText, in_2007(12, Offset::Local(-480)), "2007-02-23T12:14:33.079-08:00", &[]),
+    accepted(IonText, in_2007(20, Offset::Local(0)), "2007-02-23T20:14:33.079+00:00", &[]),
+    accepted(IonText, in_2007(20, Offset::None), "2007-02-23T20:14:33.079-00:00", &[]),
+    accepted(IonText, Build::day(2007, 1, 1).minute(0, 0), "2007-01-01T00:00-00:00", &[]),
+    accepted(IonText, Build::day(2007, 1, 1), "2007-01-01T", &[]),
+    accepted(IonText, month(2007, 1), "2007-01T", &[]),
+    accepted(IonText, Build::year(2007), "2007T", &[]),
+    accepted(IonText, Build::day(2007, 2, 23), "2007-02-23T", &[]),
+    accepted(IonText, Build::day(2007, 2, 23).minute(0, 0).offset(Offset::Local(0)), "2007-02-23T00:00+00:00", &[]),
+    accepted(IonText, Build::day(2007, 2, 23).second(0, 0, 0), "2007-02-23T00:00:00-00:00", &[]),
     accepted(ByHand, Build::year(2000), "2000T", &[0x63, 0xC0, 0x0F, 0xD0]),
     accepted(
-        ByHand,
+        IonBinary,
         year_2000(Fraction::None),
         "2000-01-01T00:00:00+00:00",
         &[0x68, 0x80, 0x0F, 0xD0, 0x81, 0x81, 0x80, 0x80, 0x80],
     ),
     accepted(
-        ByHand,
+        IonBinary,
         year_2000(digits(0, 1)),
         "2000-01-01T00:00:00.0+00:00",
         &[0x69, 0x80, 0x0F, 0xD0, 0x81, 0x81, 0x80, 0x80, 0x80, 0xC1],
     ),
     accepted(
-        ByHand,
+        IonBinary,
         year_2000(digits(0, 2)),
         "2000-01-01T00:00:00.00+00:00",
         &[0x69, 0x80, 0x0F, 0xD0, 0x81, 0x81, 0x80, 0x80, 0x80, 0xC2],
     ),
     // A fraction of 0d0 leaves no digits.
     accepted(
-        ByHand,
+        IonBinary,
         year_2000(digits(0, 0)),
         "2000-01-01T00:00:00+00:00",
         &[0x68, 0x80, 0x0F, 0xD0, 0x81, 0x81, 0x80, 0x80, 0x80],
@@ -197,7 +203,7 @@ pub const ORDERS: [Order; 6] = [
         apart: Some(0),
     },
     Order {
-        source: ByHand,
+        source: IonText,
         first: in_2007(12, Offset::Local(-480)),
         second: in_2007(20, Offset::Local(0)),
         cmp: 0,
@@ -205,7 +211,7 @@ pub const ORDERS: [Order; 6] = [
         apart: Some(0),
     },
     Order {
-        source: ByHand,
+        source: IonText,
         first: in_2007(20, Offset::Local(0)),
         second: in_2007(20, Offset::None),
         cmp: 0,
@@ -213,7 +219,7 @@ pub const ORDERS: [Order; 6] = [
         apart: Some(0),
     },
     Order {
-        source: ByHand,
+        source: IonText,
         first: Build::year(2007),
         second: Build::day(2007, 1, 1).minute(0, 0),
         cmp: 0,
@@ -222,12 +228,17 @@ pub const ORDERS: [Order; 6] = [
     },
 ];
 
-/// Document 01's stop after P3 and P4, and longer bodies of 2000-01-01T00:00:00+00:00 that the writer does not write: an
-/// exponent 0 alone, one with a coefficient 00, a negative zero exponent, an exponent 1.
+/// Document 01's stop after P3 and P4, and values that the Ion 1.0 binary encoding has as equivalents of
+/// 2000-01-01T00:00:00+00:00 without a fraction, and the writer does not write: an exponent 0 alone, one with a
+/// coefficient 00, a negative zero exponent, an exponent 1. Document 01's reader takes only the shortest form.
 pub const UNREAD: [Unread; 5] = [
     Unread { source: Others, bytes: &[0x6F], number: 14 },
-    Unread { source: ByHand, bytes: &[0x69, 0x80, 0x0F, 0xD0, 0x81, 0x81, 0x80, 0x80, 0x80, 0x80], number: 15 },
-    Unread { source: ByHand, bytes: &[0x6A, 0x80, 0x0F, 0xD0, 0x81, 0x81, 0x80, 0x80, 0x80, 0x80, 0x00], number: 15 },
-    Unread { source: ByHand, bytes: &[0x69, 0x80, 0x0F, 0xD0, 0x81, 0x81, 0x80, 0x80, 0x80, 0xC0], number: 15 },
-    Unread { source: ByHand, bytes: &[0x69, 0x80, 0x0F, 0xD0, 0x81, 0x81, 0x80, 0x80, 0x80, 0x81], number: 15 },
+    Unread { source: IonBinary, bytes: &[0x69, 0x80, 0x0F, 0xD0, 0x81, 0x81, 0x80, 0x80, 0x80, 0x80], number: 15 },
+    Unread {
+        source: IonBinary,
+        bytes: &[0x6A, 0x80, 0x0F, 0xD0, 0x81, 0x81, 0x80, 0x80, 0x80, 0x80, 0x00],
+        number: 15,
+    },
+    Unread { source: IonBinary, bytes: &[0x69, 0x80, 0x0F, 0xD0, 0x81, 0x81, 0x80, 0x80, 0x80, 0xC0], number: 15 },
+    Unread { source: IonBinary, bytes: &[0x69, 0x80, 0x0F, 0xD0, 0x81, 0x81, 0x80, 0x80, 0x80, 0x81], number: 15 },
 ];

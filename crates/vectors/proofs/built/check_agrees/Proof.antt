@@ -1,0 +1,12 @@
+-- `vectors::built::check_agrees` meets its contract. Assumes nothing.
+use borrow.Author.Needs.{needs}
+use Rattle.vectors.proofs.built.check_agrees.Statement.{statement}
+use Rattle.vectors.proofs.built.check_agrees.Tie as tie
+
+returns : tie.Need-returns
+returns c = cc
+
+pub check-agrees-spec : {M : Type 1} → statement M
+check-agrees-spec =
+    tie.close
+    (tie.spec (λ c κs. search needs) (λ c κs. search needs) (λ c κs. search needs) (λ c κs. search needs) returns)

@@ -1,0 +1,12 @@
+-- `vectors::built::utc_agrees` meets its contract. Assumes nothing.
+use borrow.Author.Needs.{needs}
+use Rattle.vectors.proofs.built.utc_agrees.Statement.{statement}
+use Rattle.vectors.proofs.built.utc_agrees.Tie as tie
+
+returns : tie.Need-returns
+returns c = cc
+
+pub utc-agrees-spec : {M : Type 1} → statement M
+utc-agrees-spec =
+    tie.close
+    (tie.spec (λ c κs. search needs) (λ c κs. search needs) (λ c κs. search needs) (λ c κs. search needs) returns)
