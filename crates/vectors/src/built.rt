@@ -5,9 +5,11 @@ use crate::fields::built_at;
 use crate::fields::pair_at;
 use ion::Built;
 ghost use mathlib.Core.Path.{_≡_};
+ghost use mathlib.Core.Bool.{_&&_};
 ghost use Rattle.ion.specs.Check.{checkOf};
 ghost use Rattle.ion.specs.Utc.{utcOf};
-ghost use Rattle.vectors.specs.Fields.{pairAt, builtAt};
+ghost use Rattle.field_sets.specs.FieldSets.{builtFrom};
+ghost use Rattle.vectors.specs.Fields.{pairAt, builtAt, fieldSetAt, isFieldSet};
 ghost use Rattle.vectors.specs.Agreement.{sameBuilt};
 
 fn same_built(a: Built, b: Built) -> bool
@@ -19,11 +21,10 @@ fn same_built(a: Built, b: Built) -> bool
         & ((s.packed_fields == t.packed_fields) & (s.attoseconds == t.attoseconds))
 }
 
-pub(crate) fn build_agrees(r: &[u8]) -> bool {
-    if !is_field_set(r) {
-        return false;
-    }
-    same_built(field_sets::build_from(field_set_at(r)), built_at(r, 48))
+pub(crate) fn build_agrees(r: &[u8]) -> bool
+    ensures { λ b. ⌜ b ≡ (isFieldSet (now (r .entry)) && sameBuilt (builtFrom (fieldSetAt (now (r .entry)))) (builtAt (now (r .entry)) 48)) ⌝ }
+{
+    is_field_set(r) & same_built(field_sets::build_from(field_set_at(r)), built_at(r, 48))
 }
 
 pub(crate) fn check_agrees(r: &[u8]) -> bool

@@ -6,15 +6,21 @@ use crate::fields::signed_half;
 use crate::fields::signed_word;
 use crate::fields::word_at;
 use field_sets::FieldSet;
+ghost use mathlib.Core.Path.{_≡_};
+ghost use Rattle.vectors.specs.Fields.{fieldSetAt, isFieldSet};
 
 // Whether the second byte is a sum of 1, 2 and 4, and a fraction that is no decimal has numbers of 32 bits.
-pub(crate) fn is_field_set(r: &[u8]) -> bool {
+pub(crate) fn is_field_set(r: &[u8]) -> bool
+    ensures { λ b. ⌜ b ≡ isFieldSet (now (r .entry)) ⌝ }
+{
     let is_decimal = 5 <= byte_at(r, 26);
     let is_short = (half_at(r, 27) == 0) & (half_at(r, 35) == 0);
     (byte_at(r, 1) < 8) & (is_decimal | is_short)
 }
 
-pub(crate) fn field_set_at(r: &[u8]) -> FieldSet {
+pub(crate) fn field_set_at(r: &[u8]) -> FieldSet
+    ensures { λ x. ⌜ x ≡ fieldSetAt (now (r .entry)) ⌝ }
+{
     let counting = byte_at(r, 1);
     FieldSet {
         stage: number_at(r, 0),

@@ -4,7 +4,9 @@ use Rattle.vectors.proofs.built.check_agrees.Statement.{statement}
 use Rattle.vectors.proofs.built.check_agrees.Tie as tie
 
 returns : tie.Need-returns
-returns c = cc
+returns c =
+    let a = c .before .before in
+    rw (a .check .ensures, a .before .pair-at .ensures, c .before .built-at .ensures) at (c .same-built .ensures)
 
 pub check-agrees-spec : {M : Type 1} → statement M
 check-agrees-spec =

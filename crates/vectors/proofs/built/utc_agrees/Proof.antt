@@ -4,7 +4,9 @@ use Rattle.vectors.proofs.built.utc_agrees.Statement.{statement}
 use Rattle.vectors.proofs.built.utc_agrees.Tie as tie
 
 returns : tie.Need-returns
-returns c = cc
+returns c =
+    let a = c .before .before in
+    rw (a .to-utc .ensures, a .before .pair-at .ensures, c .before .built-at .ensures) at (c .same-built .ensures)
 
 pub utc-agrees-spec : {M : Type 1} → statement M
 utc-agrees-spec =
