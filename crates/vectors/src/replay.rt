@@ -15,6 +15,12 @@ pub struct Tally {
     pub agreed: usize,
 }
 
+fn one_if(b: bool) -> usize
+    ensures { λ r. ⌜ r ≤ 1 ⌝ }
+{
+    if b { 1 } else { 0 }
+}
+
 // The cases from index `start` on, up to a record that is none.
 fn count_cases(file: &[u8], start: usize) -> Tally
     requires { ⌜ start ≤ length (now file) ⌝ }
@@ -34,9 +40,7 @@ fn count_cases(file: &[u8], start: usize) -> Tally
         let body = at + 2;
         let end = body + n;
         records += 1;
-        if agrees(file[at], &file[body..end]) {
-            agreed += 1;
-        }
+        agreed += one_if(agrees(file[at], &file[body..end]));
         at = end;
     }
     Tally {
@@ -44,6 +48,15 @@ fn count_cases(file: &[u8], start: usize) -> Tally
         records: records,
         agreed: agreed,
     }
+}
+
+// The last line: the end record says how many cases there are, and has the last 6 bytes of the file.
+fn print_end(agreed: usize, records: usize, count: usize, left: usize) {
+    if (count == records) & (left == 6) {
+        print_total(agreed, records);
+        return;
+    }
+    print_broken(records);
 }
 
 // Prints a line for each source, and then how many cases agree, or that the file is broken: it must end
@@ -64,18 +77,10 @@ pub(crate) fn replay(file: &[u8]) {
                 at = t.end;
             }
             Record::End(count) => {
-                if (count as usize == records) & (file.len() - at == 6) {
-                    print_total(agreed, records);
-                } else {
-                    print_broken(records);
-                }
+                print_end(agreed, records, count as usize, file.len() - at);
                 return;
             }
-            Record::Case(_) => {
-                print_broken(records);
-                return;
-            }
-            Record::Broken => {
+            _ => {
                 print_broken(records);
                 return;
             }

@@ -10,7 +10,7 @@ use Rattle.vectors.proofs.fields.signed_half.Statement.{statement}
 use Rattle.vectors.proofs.fields.signed_half.Tie as tie
 
 returns : tie.Need-returns
-returns c = simp (lt-ltb _ _ (c .if1 .taken), toZ-pos w32)
+returns c = simp (lt-ltb _ _ (c .if1 .taken))
 
 low : (c : tie.Else1) → 4294967295 - c .before .args .x < 2 ^ 31
 low c = omega arith

@@ -10,7 +10,7 @@ use Rattle.vectors.proofs.fields.signed_word.Statement.{statement}
 use Rattle.vectors.proofs.fields.signed_word.Tie as tie
 
 returns : tie.Need-returns
-returns c = simp (lt-ltb _ _ (c .if1 .taken), toZ-pos w64)
+returns c = simp (lt-ltb _ _ (c .if1 .taken))
 
 low : (c : tie.Else1) → 18446744073709551615 - c .before .args .x < 2 ^ 63
 low c = omega arith

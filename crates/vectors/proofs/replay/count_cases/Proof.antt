@@ -1,8 +1,9 @@
--- `vectors::replay::count_cases` meets its contract. Assumes nothing.
-use Rattle.vectors.proofs.Inside.{case-inside}
+-- `vectors::replay::count_cases` meets its contract. The loop's invariant is what it ensures of the cases so far. Assumes nothing.
 use Prim.Native.Nat.{_+_, _≤_, _-_}
+use native.Mathlib.Omega.{arith}
 use lib.ListN.{length}
 use borrow.Author.Needs.{needs}
+use Rattle.vectors.proofs.Inside.{case-inside}
 use Rattle.vectors.proofs.replay.count_cases.Statement.{statement}
 use Rattle.vectors.proofs.replay.count_cases.Tie as tie
 
@@ -17,36 +18,24 @@ add-end c =
     let t = c .before in
     let r = t .before .before in
     let l = r .before .before in
-    let a = l .before .before .args in
-    let h = case-inside (l .loop .at) (length (a .file .now)) (r .record-at .result) (r .record-at .ensures) (t .n .given .1) in
-    search needs
+    let h = case-inside (l .loop .at) (length (l .before .before .args .file .now)) (r .record-at .result) (r .record-at .ensures) (t .n .given .1) in
+    omega arith
 
 part-agrees-end : tie.Need-part-agrees-end Inv-loop μ-loop
 part-agrees-end c =
     let t = c .before .before in
     let r = t .before .before in
     let l = r .before .before in
-    let a = l .before .before .args in
-    let h = case-inside (l .loop .at) (length (a .file .now)) (r .record-at .result) (r .record-at .ensures) (t .n .given .1) in
-    search needs
+    let h = case-inside (l .loop .at) (length (l .before .before .args .file .now)) (r .record-at .result) (r .record-at .ensures) (t .n .given .1) in
+    omega arith
 
 loop-again : tie.Need-loop-again Inv-loop μ-loop
 loop-again c =
     let t = c .before .before .before .before .before in
     let r = t .before .before in
     let l = r .before .before in
-    let a = l .before .before .args in
-    let h = case-inside (l .loop .at) (length (a .file .now)) (r .record-at .result) (r .record-at .ensures) (t .n .given .1) in
-    search needs
-
-loop-again-2 : tie.Need-loop-again-2 Inv-loop μ-loop
-loop-again-2 c =
-    let t = c .before .before .before .before .before in
-    let r = t .before .before in
-    let l = r .before .before in
-    let a = l .before .before .args in
-    let h = case-inside (l .loop .at) (length (a .file .now)) (r .record-at .result) (r .record-at .ensures) (t .n .given .1) in
-    search needs
+    let h = case-inside (l .loop .at) (length (l .before .before .args .file .now)) (r .record-at .result) (r .record-at .ensures) (t .n .given .1) in
+    omega (arith, c .one-if .ensures)
 
 pub count-cases-spec : {M : Type 1} → statement M
 count-cases-spec =
@@ -54,21 +43,20 @@ count-cases-spec =
     (tie.spec
     Inv-loop
     μ-loop
+    (λ c. omega arith)
+    (λ c κs. tt)
     (λ c. search needs)
-    (λ c κs. search needs)
-    (λ c. search needs)
-    (λ c. search needs)
-    (λ c. search needs)
+    (λ c. omega arith)
+    (λ c. omega arith)
     add-end
-    (λ c. search needs)
-    (λ c. search needs)
-    (λ c. search needs)
-    (λ c. search needs)
+    (λ c. omega arith)
+    (λ c. omega arith)
+    (λ c. omega arith)
+    (λ c. omega arith)
     part-agrees-end
-    (λ c κs. search needs)
-    (λ c. search needs)
-    (λ c. search needs)
+    (λ c κs. tt)
+    (λ c κs. tt)
+    (λ c. omega arith)
+    (λ c. omega arith)
     loop-again
-    (λ c. search needs)
-    loop-again-2
-    (λ c. search needs))
+    (λ c. omega arith))

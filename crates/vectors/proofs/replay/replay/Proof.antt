@@ -1,8 +1,10 @@
--- `vectors::replay::replay` meets its contract. Assumes nothing.
-use Rattle.vectors.proofs.Inside.{source-inside}
-use Prim.Native.Nat.{_+_, _≤_, _-_}
+-- `vectors::replay::replay` meets its contract. The loop's invariant: fewer cases than bytes have passed, and no more agree than there are.
+-- Assumes nothing.
+use Prim.Native.Nat.{_≤_, _-_}
+use native.Mathlib.Omega.{arith}
 use lib.ListN.{length}
 use borrow.Author.Needs.{needs}
+use Rattle.vectors.proofs.Inside.{source-inside}
 use Rattle.vectors.proofs.replay.replay.Statement.{statement}
 use Rattle.vectors.proofs.replay.replay.Tie as tie
 
@@ -19,7 +21,7 @@ add-to c =
     let l = r .before .before in
     let a = l .before .before .args in
     let h = source-inside (l .loop .at) (length (a .file .now)) (r .record-at .result) (r .record-at .ensures) (t .n .given .1) in
-    search needs
+    omega arith
 
 count-cases-requires : tie.Need-count-cases-requires Inv-loop μ-loop
 count-cases-requires c κs =
@@ -28,7 +30,7 @@ count-cases-requires c κs =
     let l = r .before .before in
     let a = l .before .before .args in
     let h = source-inside (l .loop .at) (length (a .file .now)) (r .record-at .result) (r .record-at .ensures) (t .n .given .1) in
-    search needs
+    omega arith
 
 pub replay-spec : {M : Type 1} → statement M
 replay-spec =
@@ -36,32 +38,26 @@ replay-spec =
     (tie.spec
     Inv-loop
     μ-loop
+    (λ c. omega arith)
+    (λ c κs. tt)
     (λ c. search needs)
-    (λ c κs. search needs)
-    (λ c. search needs)
-    (λ c. search needs)
+    (λ c. omega arith)
     add-to
     count-cases-requires
+    (λ c. omega arith)
+    (λ c. omega arith)
+    (λ c. omega arith)
+    (λ c κs. tt)
+    (λ c. omega arith)
+    (λ c. omega arith)
+    (λ c. omega arith)
+    (λ c. omega arith)
     (λ c. search needs)
-    (λ c. search needs)
-    (λ c. search needs)
-    (λ c κs. search needs)
-    (λ c. search needs)
-    (λ c. search needs)
-    (λ c. search needs)
-    (λ c. search needs)
-    (λ c. search needs)
-    (λ c. search needs)
-    (λ c. search needs)
-    (λ c κs. search needs)
-    (λ c κs. search needs)
-    (λ c. search needs)
-    (λ c. search needs)
-    (λ c. search needs)
-    (λ c κs. search needs)
-    (λ c. search needs)
-    (λ c. search needs)
-    (λ c κs. search needs)
-    (λ c. search needs)
-    (λ c κs. search needs)
-    (λ c. search needs))
+    (λ c. omega arith)
+    (λ c. omega arith)
+    (λ c κs. tt)
+    (λ c. tt)
+    (λ c κs. tt)
+    (λ c. tt)
+    (λ c κs. tt)
+    (λ c. tt))
