@@ -8,11 +8,7 @@ use crate::fields::half_at;
 use crate::orders::distance_agrees;
 use crate::orders::order_agrees;
 use crate::read::read_agrees;
-use crate::written::padded_agrees;
-use crate::written::text_agrees;
-use crate::written::value_agrees;
-use crate::written::var_int_agrees;
-use crate::written::var_uint_agrees;
+use crate::written::written_agrees;
 ghost use lib.ListN.{length};
 ghost use Rattle.vectors.specs.Records.{Inside};
 
@@ -78,13 +74,10 @@ pub(crate) fn agrees(kind: u8, r: &[u8]) -> bool {
         2 => check_agrees(r),
         3 => utc_agrees(r),
         4 => order_agrees(r),
-        5 => text_agrees(r),
-        6 => value_agrees(r),
+        5 | 6 => written_agrees(kind, r),
         7 => read_agrees(r),
         8 => distance_agrees(r),
-        9 => var_uint_agrees(r),
-        10 => var_int_agrees(r),
-        11 => padded_agrees(r),
+        9..=11 => written_agrees(kind, r),
         _ => false,
     }
 }

@@ -6,7 +6,6 @@ use crate::fields::signed_word;
 use crate::fields::word_at;
 use binary::var_int;
 use binary::var_uint;
-use ion::Timestamp;
 use ion::Written;
 use ion::refusal;
 use text::text_formatter;
@@ -14,23 +13,21 @@ ghost use mathlib.Core.Path.{_≡_};
 ghost use Prim.Native.Nat.{_≤_};
 ghost use lib.ListN.{length};
 
-pub enum Output {
-    Text(Timestamp),
-    Value(Timestamp),
-    VarUInt(u64),
-    VarInt(i64),
-    // A number and the width that it is padded to.
-    Padded(u64, usize),
-}
-
-fn write(buf: &mut [u8], o: Output) -> Written {
-    match o {
-        Output::Text(s) => timestamp_text::format(buf, 0, s),
-        Output::Value(s) => timestamp_binary::encode_timestamp_value(buf, 0, s),
-        Output::VarUInt(x) => var_uint::write_u64(buf, 0, x),
-        Output::VarInt(x) => var_int::write_i64(buf, 0, x),
-        Output::Padded(x, width) => text_formatter::write_zero_padded(buf, 0, x, width),
+// What the kind of the record writes: a text, a value, a VarUInt, a VarInt, or else padded digits.
+fn write(buf: &mut [u8], kind: u8, r: &[u8]) -> Written {
+    if kind == 5 {
+        return timestamp_text::format(buf, 0, pair_at(r, 0));
     }
+    if kind == 6 {
+        return timestamp_binary::encode_timestamp_value(buf, 0, pair_at(r, 0));
+    }
+    if kind == 9 {
+        return var_uint::write_u64(buf, 0, word_at(r, 0));
+    }
+    if kind == 10 {
+        return var_int::write_i64(buf, 0, signed_word(word_at(r, 0)));
+    }
+    text_formatter::write_zero_padded(buf, 0, word_at(r, 0), count_at(r, 8))
 }
 
 // A buffer of AA, longer than any record's bytes.
@@ -60,22 +57,22 @@ fn holds(buf: &[u8], bytes: &[u8]) -> bool {
 }
 
 // Whether the writer answers so, writes the bytes, and leaves the rest of the buffer.
-fn fits(buf: &mut [u8], o: Output, number: u32, bytes: &[u8]) -> bool {
-    let w = write(buf, o);
+fn fits(buf: &mut [u8], kind: u8, r: &[u8], number: u32, bytes: &[u8]) -> bool {
+    let w = write(buf, kind, r);
     (w.number == number) & (w.written == bytes.len()) & holds(buf, bytes)
 }
 
 // Whether the writer finds a part of that size too short, and leaves the buffer.
-fn is_too_short(buf: &mut [u8], size: usize, o: Output) -> bool
+fn is_too_short(buf: &mut [u8], size: usize, kind: u8, r: &[u8]) -> bool
     requires { ⌜ size ≤ length (now buf) ⌝ }
 {
-    let w = write(&mut buf[..size], o);
+    let w = write(&mut buf[..size], kind, r);
     (w.number == refusal::SHORT_BUFFER) & (w.written == 0) & holds(buf, b"")
 }
 
-fn writes(o: Output, number: u32, bytes: &[u8]) -> bool {
+fn writes(kind: u8, r: &[u8], number: u32, bytes: &[u8]) -> bool {
     let mut long = room();
-    if !fits(&mut long, o, number, bytes) {
+    if !fits(&mut long, kind, r, number, bytes) {
         return false;
     }
     if number != 0 {
@@ -89,40 +86,20 @@ fn writes(o: Output, number: u32, bytes: &[u8]) -> bool {
         return false;
     }
     let mut short = room();
-    is_too_short(&mut short, n - 1, o)
+    is_too_short(&mut short, n - 1, kind, r)
 }
 
-pub(crate) fn text_agrees(r: &[u8]) -> bool {
-    if r.len() < 18 {
+// A text and a value have a number before their bytes.
+pub(crate) fn written_agrees(kind: u8, r: &[u8]) -> bool {
+    if kind < 7 {
+        if r.len() < 18 {
+            return false;
+        }
+        return writes(kind, r, number_at(r, 16), &r[18..]);
+    }
+    let from = if kind == 11 { 10 } else { 9 };
+    if r.len() < from {
         return false;
     }
-    writes(Output::Text(pair_at(r, 0)), number_at(r, 16), &r[18..])
-}
-
-pub(crate) fn value_agrees(r: &[u8]) -> bool {
-    if r.len() < 18 {
-        return false;
-    }
-    writes(Output::Value(pair_at(r, 0)), number_at(r, 16), &r[18..])
-}
-
-pub(crate) fn var_uint_agrees(r: &[u8]) -> bool {
-    if r.len() < 9 {
-        return false;
-    }
-    writes(Output::VarUInt(word_at(r, 0)), 0, &r[9..])
-}
-
-pub(crate) fn var_int_agrees(r: &[u8]) -> bool {
-    if r.len() < 9 {
-        return false;
-    }
-    writes(Output::VarInt(signed_word(word_at(r, 0))), 0, &r[9..])
-}
-
-pub(crate) fn padded_agrees(r: &[u8]) -> bool {
-    if r.len() < 10 {
-        return false;
-    }
-    writes(Output::Padded(word_at(r, 0), count_at(r, 8)), 0, &r[10..])
+    writes(kind, r, 0, &r[from..])
 }

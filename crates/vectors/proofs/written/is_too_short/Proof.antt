@@ -6,7 +6,7 @@ use Rattle.vectors.proofs.written.is_too_short.Statement.{statement}
 use Rattle.vectors.proofs.written.is_too_short.Tie as tie
 
 slice-aggregate-write : tie.Need-slice-aggregate-write
-slice-aggregate-write c = sym (length-take-le (c .before .before .args .size) (c .before .before .args .buf .now) (search needs))
+slice-aggregate-write c = sym (length-take-le (c .before .before .before .args .size) (c .before .before .before .args .buf .now) (search needs))
 
 pub is-too-short-spec : {M : Type 1} → statement M
 is-too-short-spec =
