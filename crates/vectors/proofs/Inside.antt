@@ -3,7 +3,7 @@ use mathlib.Core.Path.{_≡_, subst}
 use Prim.Native.Nat.{ℕ, _+_, _≤_}
 use Rattle.vectors.specs.Records.{Inside}
 use Rattle.vectors.specs.declared.records.Record.{Record}
-use Rattle.vectors.specs.declared.records.Record.the-variants.{Source, Case, End}
+use Rattle.vectors.specs.declared.records.Record.the-variants.{Source, Case}
 
 module _ (at n : ℕ) (r : Record) (inside : Inside at n r) {k : ℕ} where
   pub case-inside : r ≡ Case k → at + 2 + k ≤ n
@@ -11,6 +11,3 @@ module _ (at n : ℕ) (r : Record) (inside : Inside at n r) {k : ℕ} where
 
   pub source-inside : r ≡ Source k → at + 2 + k ≤ n
   source-inside e = subst (λ (x : Record). Inside at n x) e inside
-
-  pub end-inside : r ≡ End k → at + 6 ≤ n
-  end-inside e = subst (λ (x : Record). Inside at n x) e inside

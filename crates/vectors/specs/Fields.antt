@@ -12,7 +12,7 @@ use Rattle.ion.specs.declared.Read.{Read}
 use Rattle.field_sets.specs.FieldSets.{fieldSet}
 use Rattle.field_sets.specs.declared.FieldSet.{FieldSet}
 
--- the number in four bytes from index at on
+-- the number in four bytes from index at on, the highest first
 unfoldable pub halfAt : List ℕ → ℕ → ℕ
 halfAt s at = ((getD s at 0 * 256 + getD s (at + 1) 0) * 256 + getD s (at + 2) 0) * 256 + getD s (at + 3) 0
 
@@ -20,7 +20,7 @@ halfAt s at = ((getD s at 0 * 256 + getD s (at + 1) 0) * 256 + getD s (at + 2) 0
 unfoldable pub wordAt : List ℕ → ℕ → ℕ
 wordAt s at = halfAt s at * 2 ^ 32 + halfAt s (at + 4)
 
--- the number below 2 ^ n that stands for a signed one in two's complement
+-- the signed number for which a number below 2 ^ n stands in two's complement
 abbrev pub signedOf : ℕ → ℕ → ℤ
 signedOf n x = cond (ltb x (2 ^ (n - 1))) (pos x) (negsuc (2 ^ n - 1 - x))
 
@@ -37,7 +37,7 @@ fieldSetAt s =
     (getD s 26 0) (halfAt s 31) (halfAt s 39) (wordAt s 27) (signedOf 64 (wordAt s 35))
     (getD s 43 0) (signedOf 32 (halfAt s 44))
 
--- whether the sum is one, and the high halves are 0 where they are not needed
+-- whether it is such a sum, and the high halves are 0 where they are not needed
 unfoldable pub isFieldSet : List ℕ → Bool
 isFieldSet s = ltb (getD s 1 0) 8 && (leb 5 (getD s 26 0) || (eqb (halfAt s 27) 0 && eqb (halfAt s 35) 0))
 
