@@ -21,7 +21,7 @@ use std::time::Instant;
 
 const INPUTS: usize = 1024;
 const PASSES: usize = 100;
-const RUNS: usize = 15;
+const ROUNDS: usize = 60;
 
 struct Inputs {
     builds: Vec<Build>,
@@ -65,19 +65,25 @@ fn inputs(seed: u64) -> Inputs {
     }
 }
 
-/// Nanoseconds a call, in the best of the runs.
-fn best<T>(mut call: impl FnMut(usize) -> T) -> f64 {
-    let mut best = f64::INFINITY;
-    for _ in 0..RUNS {
+/// Runs a call on every input, many times over, and tells the seconds.
+type Timed<'a> = Box<dyn FnMut() -> f64 + 'a>;
+
+fn timed<'a, T>(mut call: impl FnMut(usize) -> T + 'a) -> Option<Timed<'a>> {
+    Some(Box::new(move || {
         let start = Instant::now();
         for _ in 0..PASSES {
             for place in 0..INPUTS {
                 black_box(call(black_box(place)));
             }
         }
-        best = best.min(start.elapsed().as_secs_f64());
-    }
-    best * 1e9 / (PASSES * INPUTS) as f64
+        start.elapsed().as_secs_f64()
+    }))
+}
+
+/// The same for a writer, with a buffer of its own.
+fn writing<'a, T>(mut call: impl FnMut(usize, &mut [u8]) -> T + 'a) -> Option<Timed<'a>> {
+    let mut buffer = [0; 64];
+    timed(move |at| call(at, black_box(&mut buffer)))
 }
 
 /// A lent buffer for the Rust's text: a copy and a position.
@@ -107,80 +113,98 @@ fn write_value(stamp: &Timestamp, mut buffer: &mut [u8]) -> usize {
     buffer.encode_timestamp_value(stamp).expect("64 bytes are enough")
 }
 
-/// A call's times: the Rust's with the check and bare, and the library's.
-struct Row {
+/// A call on the Rust's side, with the check and bare, and on the library's.
+struct Row<'a> {
     name: &'static str,
-    checked: Option<f64>,
-    bare: Option<f64>,
-    library: Option<f64>,
+    sides: [Option<Timed<'a>>; 3],
+    best: [f64; 3],
 }
 
-/// The Rust's times and a library's.
+/// Prints the Rust's times and a library's. Every call is timed once in each round, so that a slow spell of the machine
+/// falls on all of them, and the best of all rounds counts.
 pub fn run<L: Library>(library: &L, seed: u64) {
     let inputs = inputs(seed);
-    let mut rows = rust_rows(&inputs);
-    for row in &mut rows {
-        row.library = library_time(library, &inputs, row.name);
+    let mut rows = rows(library, &inputs);
+    for _ in 0..ROUNDS {
+        for row in &mut rows {
+            for (side, best) in row.sides.iter_mut().zip(&mut row.best) {
+                if let Some(side) = side {
+                    *best = best.min(side());
+                }
+            }
+        }
     }
-    println!("ns a call, best of {RUNS} runs of {} calls; seed {seed}", PASSES * INPUTS);
+    println!("ns a call, best of {ROUNDS} rounds of {} calls; seed {seed}", PASSES * INPUTS);
     println!("{:<14} {:>15} {:>10} {:>9} {:>7}", "call", "Rust and check", "Rust bare", "library", "ratio");
-    let shown = |time: Option<f64>| time.map_or("-".to_string(), |time| format!("{time:.1}"));
     for row in rows {
-        let ratio = row.library.zip(row.checked).map(|(library, rust)| library / rust);
-        let ratio = ratio.map_or("-".to_string(), |ratio| format!("{ratio:.2}"));
-        let (checked, bare, library) = (shown(row.checked), shown(row.bare), shown(row.library));
+        let [checked, bare, library] = row.best.map(|best| match best.is_finite() {
+            true => format!("{:.1}", best * 1e9 / (PASSES * INPUTS) as f64),
+            false => "-".to_string(),
+        });
+        let ratio = match row.best[0].is_finite() {
+            true => format!("{:.2}", row.best[2] / row.best[0]),
+            false => "-".to_string(),
+        };
         println!("{:<14} {checked:>15} {bare:>10} {library:>9} {ratio:>7}", row.name);
     }
 }
 
-fn rust_rows(inputs: &Inputs) -> Vec<Row> {
-    let row = |name, checked: Option<f64>, bare: Option<f64>| Row { name, checked, bare, library: None };
-    let (pairs, near) = (&inputs.pairs, &inputs.near);
+fn rows<'a, L: Library>(library: &'a L, inputs: &'a Inputs) -> Vec<Row<'a>> {
+    let (builds, pairs, near, values) = (&inputs.builds, &inputs.pairs, &inputs.near, &inputs.values);
     let (stamps, near_stamps) = (&inputs.stamps, &inputs.near_stamps);
-    let mut buffer = [0; 64];
+    let row = |name, sides| Row { name, sides, best: [f64::INFINITY; 3] };
     vec![
         // The builder's checks are the call itself.
-        row("build", Some(best(|at| oracle::build_stamp(&inputs.builds[at]).map(|stamp| stamp.to_bits()))), None),
-        row("check", Some(best(|at| stamp(pairs[at]).to_bits())), None),
+        row(
+            "build",
+            [
+                timed(|at| oracle::build_stamp(&builds[at]).map(|stamp| stamp.to_bits())),
+                None,
+                timed(|at| library.build(&builds[at])),
+            ],
+        ),
+        row("check", [timed(|at| stamp(pairs[at]).to_bits()), None, timed(|at| library.check(pairs[at]))]),
         row(
             "cmp",
-            Some(best(|at| stamp(pairs[at]).cmp(&stamp(near[at])))),
-            Some(best(|at| stamps[at].cmp(&near_stamps[at]))),
+            [
+                timed(|at| stamp(pairs[at]).cmp(&stamp(near[at]))),
+                timed(|at| stamps[at].cmp(&near_stamps[at])),
+                timed(|at| library.cmp(pairs[at], near[at])),
+            ],
         ),
-        row("==", Some(best(|at| stamp(pairs[at]) == stamp(near[at]))), Some(best(|at| stamps[at] == near_stamps[at]))),
-        row("distance", None, None),
+        row(
+            "==",
+            [
+                timed(|at| stamp(pairs[at]) == stamp(near[at])),
+                timed(|at| stamps[at] == near_stamps[at]),
+                timed(|at| library.eq(pairs[at], near[at])),
+            ],
+        ),
+        row("distance", [None, None, timed(|at| library.distance(pairs[at], near[at]))]),
         row(
             "to_utc",
-            Some(best(|at| stamp(pairs[at]).to_utc().to_bits())),
-            Some(best(|at| stamps[at].to_utc().to_bits())),
+            [
+                timed(|at| stamp(pairs[at]).to_utc().to_bits()),
+                timed(|at| stamps[at].to_utc().to_bits()),
+                timed(|at| library.to_utc(pairs[at])),
+            ],
         ),
         row(
             "text",
-            Some(best(|at| write_text(&stamp(pairs[at]), black_box(&mut buffer)))),
-            Some(best(|at| write_text(&stamps[at], black_box(&mut buffer)))),
+            [
+                writing(|at, buffer| write_text(&stamp(pairs[at]), buffer)),
+                writing(|at, buffer| write_text(&stamps[at], buffer)),
+                writing(|at, buffer| library.text(pairs[at], buffer)),
+            ],
         ),
         row(
             "value",
-            Some(best(|at| write_value(&stamp(pairs[at]), black_box(&mut buffer)))),
-            Some(best(|at| write_value(&stamps[at], black_box(&mut buffer)))),
+            [
+                writing(|at, buffer| write_value(&stamp(pairs[at]), buffer)),
+                writing(|at, buffer| write_value(&stamps[at], buffer)),
+                writing(|at, buffer| library.value(pairs[at], buffer)),
+            ],
         ),
-        row("read", None, None),
+        row("read", [None, None, timed(|at| library.read(&values[at]))]),
     ]
-}
-
-fn library_time<L: Library>(library: &L, inputs: &Inputs, name: &str) -> Option<f64> {
-    let (pairs, near) = (&inputs.pairs, &inputs.near);
-    let mut buffer = [0; 64];
-    Some(match name {
-        "build" => best(|at| library.build(&inputs.builds[at])),
-        "check" => best(|at| library.check(pairs[at])),
-        "cmp" => best(|at| library.cmp(pairs[at], near[at])),
-        "==" => best(|at| library.eq(pairs[at], near[at])),
-        "distance" => best(|at| library.distance(pairs[at], near[at])),
-        "to_utc" => best(|at| library.to_utc(pairs[at])),
-        "text" => best(|at| library.text(pairs[at], black_box(&mut buffer))),
-        "value" => best(|at| library.value(pairs[at], black_box(&mut buffer))),
-        "read" => best(|at| library.read(&inputs.values[at])),
-        _ => return None,
-    })
 }
