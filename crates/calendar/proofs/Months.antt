@@ -104,7 +104,7 @@ january leap = refl
 abbrev pub starts : List ℕ
 starts = 0 ∷ 0 ∷ 31 ∷ 59 ∷ 90 ∷ 120 ∷ 151 ∷ 181 ∷ 212 ∷ 243 ∷ 273 ∷ 304 ∷ 334 ∷ []
 
-start-is : (leap : Bool) (m : ℕ) → m ≤ 12 → sumBelow (monthLengthOf leap) m ≡ getD starts m 0 + cond (ltb 2 m) (leapDay leap) 0
+pub start-is : (leap : Bool) (m : ℕ) → m ≤ 12 → sumBelow (monthLengthOf leap) m ≡ getD starts m 0 + cond (ltb 2 m) (leapDay leap) 0
 unfolding entryIs sumBelow monthLengthOf
 start-is leap m h = by-table (λ leap. sumBelow (monthLengthOf leap)) (ltb 2) starts tt tt leap m (omega arith)
 

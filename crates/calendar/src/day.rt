@@ -16,14 +16,14 @@ pub fn year_start(year: u32) -> u64
 }
 
 // By month, 1 being January: the days before it in a year that is no leap year.
-const MONTH_STARTS: [u64; 13] = [0, 0, 31, 59, 90, 120, 151, 181, 212, 243, 273, 304, 334];
+const MONTH_STARTS: [u16; 13] = [0, 0, 31, 59, 90, 120, 151, 181, 212, 243, 273, 304, 334];
 
 // The days of the year before the month.
 pub fn month_start(year: u32, month: u32) -> u64
     requires { ⌜ month ≤ 12 ⌝ }
     ensures { λ r. ⌜ r ≡ monthStart year month ⌝ }
 {
-    let start = MONTH_STARTS[month as usize];
+    let start = MONTH_STARTS[month as usize] as u64;
     if month <= 2 {
         return start;
     }

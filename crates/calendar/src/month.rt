@@ -16,7 +16,7 @@ pub fn is_leap(year: u32) -> bool
 }
 
 // By month, 1 being January: the days in a year that is no leap year.
-const MONTH_LENGTHS: [u32; 13] = [0, 31, 28, 31, 30, 31, 30, 31, 31, 30, 31, 30, 31];
+const MONTH_LENGTHS: [u8; 13] = [0, 31, 28, 31, 30, 31, 30, 31, 31, 30, 31, 30, 31];
 
 // The month's length; 0 for a month outside 1 to 12 or a year above 10000.
 pub fn days_in_month(year: u32, month: u32) -> u32
@@ -29,7 +29,7 @@ pub fn days_in_month(year: u32, month: u32) -> u32
         return 0;
     }
     if month != 2 {
-        return MONTH_LENGTHS[month as usize];
+        return MONTH_LENGTHS[month as usize] as u32;
     }
     if is_leap(year) {
         return 29;

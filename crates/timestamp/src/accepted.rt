@@ -87,8 +87,14 @@ fn is_multiple(attoseconds: u64, digits: u32) -> bool
 fn is_valid(w: u64, attoseconds: u64) -> bool
     ensures { λ r. ⌜ (r ≡ true → Valid (fieldsOf w) attoseconds) × (Valid (fieldsOf w) attoseconds → r ≡ true) ⌝ }
 {
+    if !in_bounds(w) {
+        return false;
+    }
     let f = packed::unpack(w);
-    if !(in_bounds(w) & has_first_values(f) & (attoseconds < 1_000_000_000_000_000_000)) {
+    if !has_first_values(f) {
+        return false;
+    }
+    if 1_000_000_000_000_000_000 <= attoseconds {
         return false;
     }
     let date = Date {

@@ -12,9 +12,10 @@ ghost use mathlib.Core.Path.{_≡_};
 ghost use Rattle.ion.specs.Build.{offsetIs, isUtc, outside, firstOf, ranges, buildOf};
 
 // Whether an offset is known and a day or more.
-fn is_outside(o: BuilderOffset) -> bool
-    ensures { λ r. ⌜ r ≡ outside o ⌝ }
+fn is_outside(f: BuilderFields) -> bool
+    ensures { λ r. ⌜ r ≡ outside (f .offset) ⌝ }
 {
+    let o = f.offset;
     match o {
         BuilderOffset::Unknown => false,
         BuilderOffset::FromLocalFields(m) => !m.is_offset(),
@@ -23,9 +24,10 @@ fn is_outside(o: BuilderOffset) -> bool
 }
 
 // The offset of a timestamp that is built.
-fn offset_is(o: BuilderOffset) -> Offset
-    ensures { λ r. ⌜ r ≡ offsetIs o ⌝ }
+fn offset_is(f: BuilderFields) -> Offset
+    ensures { λ r. ⌜ r ≡ offsetIs (f .offset) ⌝ }
 {
+    let o = f.offset;
     match o {
         BuilderOffset::Unknown => Offset::Unknown,
         BuilderOffset::FromLocalFields(m) => Offset::Known(m),
@@ -34,9 +36,10 @@ fn offset_is(o: BuilderOffset) -> Offset
 }
 
 // Whether the fields are UTC's.
-fn is_utc(o: BuilderOffset) -> bool
-    ensures { λ r. ⌜ r ≡ isUtc o ⌝ }
+fn is_utc(f: BuilderFields) -> bool
+    ensures { λ r. ⌜ r ≡ isUtc (f .offset) ⌝ }
 {
+    let o = f.offset;
     match o {
         BuilderOffset::Unknown => false,
         BuilderOffset::FromLocalFields(m) => false,
@@ -56,7 +59,6 @@ fn check_ranges(f: BuilderFields) -> u32
     let minute = f.minute;
     let second = f.second;
     let digits = f.digits;
-    let offset = f.offset;
     if 1_000_000_000_000_000_000 <= attoseconds {
         return refusal::FRACTION;
     }
@@ -81,7 +83,7 @@ fn check_ranges(f: BuilderFields) -> u32
     if 18 < digits {
         return refusal::DIGITS;
     }
-    if is_outside(offset) {
+    if is_outside(f) {
         return refusal::OFFSET;
     }
     0
@@ -95,9 +97,8 @@ pub fn build(f: BuilderFields) -> Built
     if n != 0 {
         return refused(n);
     }
-    let offset = f.offset;
-    let o = offset_is(offset);
-    if is_utc(offset) {
+    let o = offset_is(f);
+    if is_utc(f) {
         return build_utc(f, offset::minutes_of(o));
     }
     build_local(f, o)

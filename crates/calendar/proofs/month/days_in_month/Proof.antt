@@ -1,12 +1,12 @@
 -- `calendar::days_in_month` meets its contract. Assumes nothing.
 use mathlib.Core.Path.{_≡_, sym, ap, _∙_}
-use mathlib.Core.Bool.{Bool}
+use mathlib.Core.Bool.{Bool, false}
 use Prim.Native.Nat.{_+_}
 use native.Mathlib.Omega.{arith}
 use borrow.Author.Needs.{needs}
 use borrow.Author.Tests.{lt-ltb, le-ltb}
 use Rattle.ion.specs.Calendar.{isLeap, leapDay, daysInMonth}
-use Rattle.calendar.proofs.Months.{fixed-length, february, no-month}
+use Rattle.calendar.proofs.Months.{fixed-length, month-most, february, no-month}
 use Rattle.calendar.proofs.month.days_in_month.Statement.{statement}
 use Rattle.calendar.proofs.month.days_in_month.Tie as tie
 
@@ -15,6 +15,9 @@ returns c = simp (lt-ltb _ _ (c .if1 .taken))
 
 returns-2 : tie.Need-returns-2
 returns-2 c = simp (le-ltb _ _ (c .before .if1 .left)) (sym (no-month _ _ (c .if2 .taken)))
+
+cast-result : tie.Need-cast-result
+cast-result c = let m = c .before .before .before .args .month in omega (arith, fixed-length false m (c .before .if2 .left) (c .if3 .taken), month-most false m)
 
 returns-3 : tie.Need-returns-3
 returns-3 c = simp (le-ltb _ _ (c .before .before .if1 .left)) (sym (fixed-length _ _ (c .before .if2 .left) (c .if3 .taken)))
@@ -33,4 +36,4 @@ returns-5 : tie.Need-returns-5
 returns-5 c = ap (λ (l : Bool). 28 + leapDay l) (sym (c .if4 .left)) ∙ told (c .before)
 
 pub days-in-month-spec : {M : Type 1} → statement M
-days-in-month-spec = tie.close (tie.spec returns returns-2 (λ c. search needs) (λ c. search needs) returns-3 (λ c κs. search needs) returns-4 returns-5)
+days-in-month-spec = tie.close (tie.spec returns returns-2 (λ c. search needs) cast-result returns-3 (λ c κs. search needs) returns-4 returns-5)
