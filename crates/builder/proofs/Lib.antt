@@ -1,2 +1,6 @@
--- The laws of the builder's stages. Assumes nothing.
-pub mod Given
+-- The laws of building: its checks, its routes, the local time, and what the stages give.
+pub mod Checks
+pub mod Bounds
+pub mod Routes
+pub mod Times
+pub mod Stages

@@ -3,6 +3,7 @@ use crate::HasDay;
 use crate::HasHour;
 use crate::HasMinute;
 use crate::HasSeconds;
+use crate::building::build;
 use ion::BuilderFields;
 use ion::Built;
 use ion::TimestampPrecision;
@@ -39,6 +40,6 @@ impl HasDay {
     pub fn build(self) -> Built
         ensures { λ r. ⌜ r ≡ buildOf (self .fields) ⌝ }
     {
-        timestamp::build(self.fields)
+        build(self.fields)
     }
 }

@@ -1,6 +1,7 @@
 // A date and a time with a fraction of the second were given.
 use crate::HasFractionalSeconds;
 use crate::HasOffset;
+use crate::building::build;
 use crate::offset::from_local;
 use crate::offset::from_utc;
 use ion::BuilderOffset;
@@ -26,6 +27,6 @@ impl HasFractionalSeconds {
     pub fn build(self) -> Built
         ensures { λ r. ⌜ r ≡ buildOf (self .fields) ⌝ }
     {
-        timestamp::build(self.fields)
+        build(self.fields)
     }
 }

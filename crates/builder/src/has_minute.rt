@@ -2,6 +2,7 @@
 use crate::HasMinute;
 use crate::HasOffset;
 use crate::HasSeconds;
+use crate::building::build;
 use crate::offset::from_local;
 use crate::offset::from_utc;
 use ion::BuilderFields;
@@ -42,6 +43,6 @@ impl HasMinute {
     pub fn build(self) -> Built
         ensures { λ r. ⌜ r ≡ buildOf (self .fields) ⌝ }
     {
-        timestamp::build(self.fields)
+        build(self.fields)
     }
 }

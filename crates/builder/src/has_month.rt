@@ -1,6 +1,7 @@
 // A year and a month were given.
 use crate::HasDay;
 use crate::HasMonth;
+use crate::building::build;
 use crate::counting::from_zero;
 use ion::BuilderFields;
 use ion::Built;
@@ -34,6 +35,6 @@ impl HasMonth {
     pub fn build(self) -> Built
         ensures { λ r. ⌜ r ≡ buildOf (self .fields) ⌝ }
     {
-        timestamp::build(self.fields)
+        build(self.fields)
     }
 }

@@ -1,5 +1,6 @@
 // An offset was given last.
 use crate::HasOffset;
+use crate::building::build;
 use ion::Built;
 ghost use mathlib.Core.Path.{_≡_};
 ghost use Rattle.ion.specs.Build.{buildOf};
@@ -8,6 +9,6 @@ impl HasOffset {
     pub fn build(self) -> Built
         ensures { λ r. ⌜ r ≡ buildOf (self .fields) ⌝ }
     {
-        timestamp::build(self.fields)
+        build(self.fields)
     }
 }

@@ -2,6 +2,7 @@
 use crate::HasFractionalSeconds;
 use crate::HasOffset;
 use crate::HasSeconds;
+use crate::building::build;
 use crate::offset::from_local;
 use crate::offset::from_utc;
 use ion::BuilderFields;
@@ -77,6 +78,6 @@ impl HasSeconds {
     pub fn build(self) -> Built
         ensures { λ r. ⌜ r ≡ buildOf (self .fields) ⌝ }
     {
-        timestamp::build(self.fields)
+        build(self.fields)
     }
 }

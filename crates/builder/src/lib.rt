@@ -1,6 +1,9 @@
-// The builder's stages: a struct for each around the fields given so far, with its setters and `build` in the file of
-// its name. A finer field is given only after the coarser one, a fraction only after the second, an offset last.
+// The builder. Its stages are a struct for each around the fields given so far, with its setters and `build` in the file of
+// its name: a finer field is given only after the coarser one, a fraction only after the second, an offset last.
+mod answer;
+mod building;
 mod counting;
+mod fields;
 mod has_day;
 mod has_fractional_seconds;
 mod has_hour;
@@ -9,8 +12,11 @@ mod has_month;
 mod has_offset;
 mod has_seconds;
 mod has_year;
+mod local_route;
 mod offset;
+mod utc_route;
 
+pub use fields::build_fields;
 use ion::BuilderFields;
 use ion::BuilderOffset;
 use ion::TimestampPrecision;

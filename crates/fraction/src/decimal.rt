@@ -1,10 +1,10 @@
 // Fractions given as a decimal.
-use crate::powers::SECOND;
 use crate::powers::power;
 use crate::units::cap;
 use crate::units::scaled;
 use ion::Decimal;
 use ion::Fraction;
+use ion::MAX_ATTOSECONDS;
 ghost use mathlib.Core.Path.{_≡_};
 ghost use Prim.Native.Nat.{_/_, _^_, min};
 ghost use Rattle.ion.specs.Fraction.{capped, digitsOf, attosecondsOf, belowZero, decimal};
@@ -26,7 +26,7 @@ fn quotient(n: u64, digits: u64) -> u64
     if digits <= 18 {
         return n / power(digits);
     }
-    n / SECOND / power(digits - 18)
+    n / MAX_ATTOSECONDS / power(digits - 18)
 }
 
 // n times 10^-digits, in attoseconds.
@@ -51,7 +51,7 @@ pub fn from_decimal(d: Decimal) -> Fraction
     let digits = digits_of(d.exponent);
     if is_below_zero(d) {
         return Fraction {
-            attoseconds: SECOND,
+            attoseconds: MAX_ATTOSECONDS,
             digits: digits,
         };
     }

@@ -1,10 +1,11 @@
 // The powers of ten, 10^0 to 10^18, and attoseconds cut to a number of digits.
+use ion::MAX_ATTOSECONDS;
 ghost use mathlib.Core.Path.{_≡_};
 ghost use Prim.Native.Nat.{_^_, min};
 ghost use Rattle.ion.specs.Fraction.{scale, cutTo};
 
-// The attoseconds of a second.
-pub(crate) const SECOND: u64 = 1_000_000_000_000_000_000;
+// The attoseconds of a nanosecond.
+pub(crate) const NANOSECOND: u64 = 1_000_000_000;
 
 const POWERS: [u64; 19] = [
     1,
@@ -25,7 +26,7 @@ const POWERS: [u64; 19] = [
     1_000_000_000_000_000,
     10_000_000_000_000_000,
     100_000_000_000_000_000,
-    1_000_000_000_000_000_000,
+    MAX_ATTOSECONDS,
 ];
 
 // The attoseconds of one unit of the last of the digits; 1 past the eighteenth.
@@ -44,7 +45,7 @@ pub fn power(n: u64) -> u64
     ensures { λ r. ⌜ r ≡ 10 ^ min n 18 ⌝ }
 {
     if 18 < n {
-        return SECOND;
+        return MAX_ATTOSECONDS;
     }
     scale(18 - n)
 }

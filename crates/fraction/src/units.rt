@@ -1,9 +1,10 @@
 // Fractions given as a number of units: milliseconds, microseconds, nanoseconds.
-use crate::powers::SECOND;
+use crate::powers::NANOSECOND;
 use crate::powers::cut;
 use crate::powers::power;
 use crate::powers::scale;
 use ion::Fraction;
+use ion::MAX_ATTOSECONDS;
 ghost use mathlib.Core.Path.{_≡_};
 ghost use Prim.Native.Nat.{_*_};
 ghost use Rattle.ion.specs.Fraction.{scale, capped, fractionIs, milliseconds, microseconds, nanoseconds, nanosecondsTo};
@@ -12,8 +13,8 @@ ghost use Rattle.ion.specs.Fraction.{scale, capped, fractionIs, milliseconds, m
 pub(crate) fn cap(attoseconds: u64) -> u64
     ensures { λ r. ⌜ r ≡ capped attoseconds ⌝ }
 {
-    if SECOND <= attoseconds {
-        return SECOND;
+    if MAX_ATTOSECONDS <= attoseconds {
+        return MAX_ATTOSECONDS;
     }
     attoseconds
 }
@@ -23,7 +24,7 @@ pub(crate) fn scaled(n: u64, digits: u64) -> u64
     ensures { λ r. ⌜ r ≡ capped (n * scale digits) ⌝ }
 {
     if power(digits) <= n {
-        return SECOND;
+        return MAX_ATTOSECONDS;
     }
     n * scale(digits)
 }
@@ -61,7 +62,7 @@ pub fn from_nanoseconds_and_precision(n: u32, digits: u32) -> Fraction
 {
     let kept = digits as u64;
     Fraction {
-        attoseconds: cap(cut(n as u64 * 1_000_000_000, kept)),
+        attoseconds: cap(cut(n as u64 * NANOSECOND, kept)),
         digits: kept,
     }
 }

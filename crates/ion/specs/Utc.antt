@@ -2,7 +2,7 @@
 use mathlib.Core.Bool.{cond}
 use lib.Dec.{eqb}
 use lib.IntN.{ℤ, negℤ}
-use Rattle.ion.specs.Offset.{rawIs, offsetOf}
+use Rattle.ion.specs.Offset.{rawOf, offsetOf}
 use Rattle.ion.specs.Shift.{shifted}
 use Rattle.ion.specs.Word.{wordOf, fieldsOf}
 use Rattle.ion.specs.Pair.{wordIn, pairIs}
@@ -35,7 +35,7 @@ withTime f t r =
 -- an unknown offset changes nothing
 abbrev pub utcBy : Offset → Fields → Fields
 utcBy Unknown f = f
-utcBy (Known m) f = withTime f (shifted (timeIn f) (negℤ (m .0))) (rawIs 0)
+utcBy (Known m) f = withTime f (shifted (timeIn f) (negℤ (m .0))) (rawOf Unknown)
 
 unfoldable pub utcFields : Fields → Fields
 utcFields f = utcBy (offsetOf (f .offset)) f

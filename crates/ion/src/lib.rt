@@ -5,6 +5,11 @@ pub mod refusal;
 use offset::Offset;
 use offset::OffsetMinutes;
 use offset::RawOffset;
+ghost use mathlib.Core.Path.{_≡_};
+ghost use Rattle.ion.specs.Build.{refusal};
+
+// The attoseconds of a second: a fraction has fewer.
+pub const MAX_ATTOSECONDS: u64 = 1_000_000_000_000_000_000;
 
 // A timestamp is its packed pair. Anyone may hold a wrong pair: every call checks the pair it is given.
 pub struct Timestamp {
@@ -89,6 +94,20 @@ pub struct BuilderFields {
 pub struct Built {
     pub number: u32,
     pub stamp: Timestamp,
+}
+
+impl Built {
+    pub fn refused(number: u32) -> Built
+        ensures { λ r. ⌜ r ≡ refusal number ⌝ }
+    {
+        Built {
+            number: number,
+            stamp: Timestamp {
+                packed_fields: 0,
+                attoseconds: 0,
+            },
+        }
+    }
 }
 
 // A field read from a timestamp; 0 beside a refusal.

@@ -1,13 +1,11 @@
 // Order and distance of two counts, each as two numbers.
 use ion::Distance;
+use ion::MAX_ATTOSECONDS;
 ghost use mathlib.Core.Path.{_≡_};
 ghost use Prim.Native.Nat.{_+_, _*_, _^_, _≤_, _<_};
 ghost use Rattle.ion.specs.Order.{gapOf};
 ghost use Rattle.order.specs.Answers.{distant, distanceOfCounts};
 ghost use Rattle.order.specs.Counts.{orderOfPairs};
-
-// Attoseconds in a second.
-const SECOND: u64 = 1_000_000_000_000_000_000;
 
 // -1, 0 or 1, by the first numbers and then by the second.
 pub(crate) fn order_of_pairs(m: u64, a: u64, n: u64, b: u64) -> i32
@@ -45,7 +43,7 @@ fn distance_by(sign: i32, m: u64, a: u64, n: u64, b: u64) -> Distance
         number: 0,
         sign: sign,
         seconds: m - n - 1,
-        attoseconds: a + SECOND - b,
+        attoseconds: a + MAX_ATTOSECONDS - b,
     }
 }
 

@@ -8,7 +8,7 @@ use borrow.Author.Tests.{eq-eqb, ne-eqb}
 use Rattle.ion.specs.Refusal.{digitsRefused, pairRefused}
 use Rattle.ion.specs.Word.{fieldsOf}
 use Rattle.ion.specs.Pair.{wordIn, pairIs, samePair}
-use Rattle.ion.specs.Build.{refusal, accepted, answer, numberOf, pairOf}
+use Rattle.ion.specs.Build.{refusal, accepted, answer, numberOf, pairOf, buildOf}
 use Rattle.ion.specs.Check.{rebuilt, sameAs, checkOf}
 use Rattle.ion.specs.Accepted.{Staged, Accepted}
 use Rattle.ion.specs.Stages.{Stage, Gives}
@@ -16,7 +16,7 @@ use Rattle.ion.specs.declared.BuilderFields.{BuilderFields}
 use Rattle.ion.specs.declared.Timestamp.{Timestamp}
 use Rattle.ion.specs.declared.Built.{Built}
 use Rattle.timestamp.proofs.Rebuilt.{check-digits, check-built}
-use Rattle.timestamp.proofs.Staging.{gives-staged}
+use Rattle.builder.proofs.Stages.{gives-staged}
 use Rattle.timestamp.proofs.Valid.{build-accepted, accepted-word}
 use Rattle.timestamp.proofs.Given.{rebuilt-staged, rebuilt-builds}
 
@@ -94,3 +94,11 @@ build-checks b s e = check-accepts (pairOf b) (build-accepted b s e)
 -- and so to all that the stages give
 pub gives-checks : {t : Stage} {b : BuilderFields} → Gives t b → numberOf b ≡ 0 → checkOf (pairOf b) ≡ accepted (pairOf b)
 gives-checks {t} {b} g e = build-checks b (gives-staged g) e
+
+-- to every pair that `build` answers at any stage the packed check answers 0 and that pair
+pub built-checks : {t : Stage} {f : BuilderFields} → Gives t f → buildOf f .number ≡ 0 → checkOf (buildOf f .stamp) ≡ buildOf f
+built-checks {t} {f} g e = go (ℕ-discrete (numberOf f) 0)
+  where
+    go : Dec (numberOf f ≡ 0) → checkOf (buildOf f .stamp) ≡ buildOf f
+    go (yes k) = simp (eq-eqb (numberOf f) 0 k) (gives-checks g k)
+    go (no k) = absurd (k (simp (ne-eqb (numberOf f) 0 k) at e))

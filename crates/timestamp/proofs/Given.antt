@@ -22,8 +22,8 @@ use Rattle.ion.specs.declared.offset.Offset.the-variants.{Unknown, Known}
 use Rattle.ion.proofs.Offsets.{back-and-raw}
 use Rattle.calendar.proofs.Dates.{date-is, month-of, day-of}
 use Rattle.fraction.proofs.Scales.{cut-same, cut-multiple}
-use Rattle.timestamp.proofs.Checks.{pass-zero, pass-append}
-use Rattle.timestamp.proofs.Bounds.{bounds-pass, is-year}
+use Rattle.builder.proofs.Checks.{pass-zero, pass-append}
+use Rattle.builder.proofs.Bounds.{bounds-pass, is-year}
 use Rattle.timestamp.proofs.Valid.{valid-offset}
 
 -- 5 to 7 read as 4

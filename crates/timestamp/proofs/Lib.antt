@@ -1,9 +1,4 @@
-pub mod Checks
-pub mod Bounds
-pub mod Routes
 pub mod Rebuilt
-pub mod Staging
-pub mod Times
 pub mod Valid
 pub mod Given
 pub mod Accepts

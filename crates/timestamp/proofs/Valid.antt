@@ -19,10 +19,10 @@ use Rattle.ion.specs.declared.Timestamp.{Timestamp}
 use Rattle.calendar.proofs.Dates.{month-of, day-of}
 use Rattle.ion.proofs.Offsets.{raw-lt, back-within}
 use Rattle.packed.proofs.Words.{unpack-pack, pack-unpack, word-lt, word-low}
-use Rattle.timestamp.proofs.Checks.{zero-pass, pass-left, pass-right, numbered-append}
-use Rattle.timestamp.proofs.Bounds.{in-bounds, precision-le}
-use Rattle.timestamp.proofs.Routes.{ranges-numbered, route-numbered}
-use Rattle.timestamp.proofs.Times.{local-is}
+use Rattle.builder.proofs.Checks.{zero-pass, pass-left, pass-right, numbered-append}
+use Rattle.builder.proofs.Bounds.{in-bounds, precision-le}
+use Rattle.builder.proofs.Routes.{ranges-numbered, route-numbered}
+use Rattle.builder.proofs.Times.{local-is}
 
 -- ---- what the builder gives
 

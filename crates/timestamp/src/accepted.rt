@@ -2,6 +2,7 @@
 // holds of those.
 use ion::Date;
 use ion::Fields;
+use ion::MAX_ATTOSECONDS;
 use ion::Timestamp;
 ghost use mathlib.Core.Path.{_≡_};
 ghost use mathlib.Core.Bool.{true, _&&_, _||_};
@@ -94,7 +95,7 @@ fn is_valid(w: u64, attoseconds: u64) -> bool
     if !has_first_values(f) {
         return false;
     }
-    if 1_000_000_000_000_000_000 <= attoseconds {
+    if MAX_ATTOSECONDS <= attoseconds {
         return false;
     }
     let date = Date {

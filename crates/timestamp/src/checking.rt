@@ -1,7 +1,6 @@
 // The check of a packed pair.
 use crate::accepted::is_accepted;
-use crate::answer::refused;
-use crate::building::build;
+use builder::build_fields;
 use ion::BuilderFields;
 use ion::BuilderOffset;
 use ion::Built;
@@ -99,10 +98,10 @@ fn same_as(s: Timestamp, b: Built) -> Built
         return b;
     }
     if built_word != word {
-        return refused(refusal::PAIR);
+        return Built::refused(refusal::PAIR);
     }
     if built_attoseconds != attoseconds {
-        return refused(refusal::PAIR);
+        return Built::refused(refusal::PAIR);
     }
     b
 }
@@ -114,9 +113,9 @@ fn check_by_building(s: Timestamp) -> Built
     let f = packed::unpack(s.packed_fields);
     let digits = f.digits;
     if 18 < digits {
-        return refused(refusal::DIGITS);
+        return Built::refused(refusal::DIGITS);
     }
-    same_as(s, build(rebuild(f, s.attoseconds)))
+    same_as(s, build_fields(rebuild(f, s.attoseconds)))
 }
 
 // Whether the builder gives this pair: 0 and the pair, or a number and (0, 0). Only a pair that is refused is built

@@ -7,7 +7,6 @@ use ion::Timestamp;
 use ion::offset;
 use ion::offset::Offset;
 use ion::offset::OffsetMinutes;
-use ion::offset::RawOffset;
 ghost use mathlib.Core.Path.{_≡_};
 ghost use Prim.Native.Nat.{_≤_};
 ghost use Rattle.ion.specs.Offset.{WithinDay, offsetOf};
@@ -38,7 +37,7 @@ fn moved_back(f: Fields, m: OffsetMinutes) -> Fields
         second: f.second,
         precision: f.precision,
         digits: f.digits,
-        offset: RawOffset::new(0),
+        offset: offset::raw_of(Offset::Unknown),
     }
 }
 

@@ -24,7 +24,7 @@ add-offset-to-utc-requires c κs =
 returns : tie.Need-returns
 returns c =
     let f = c .before .before .before .args .f in
-    ap₂ (withTime f) (c .before .add-offset-to-utc .ensures ∙ ap (shifted (timeIn f)) (minus (c .before .before))) (c .new .ensures)
+    ap₂ (withTime f) (c .before .add-offset-to-utc .ensures ∙ ap (shifted (timeIn f)) (minus (c .before .before))) (c .raw-of .ensures)
 
 pub moved-back-spec : {M : Type 1} → statement M
 moved-back-spec = tie.close (tie.spec (λ c κs. search needs) add-offset-to-utc-requires (λ c κs. search needs) returns)

@@ -11,7 +11,7 @@ use Rattle.ion.specs.declared.BuilderFields.{BuilderFields}
 use Rattle.ion.specs.declared.BuilderOffset.{BuilderOffset}
 use Rattle.ion.specs.declared.BuilderOffset.the-variants.{Unknown, FromLocalFields, FromUtcFields}
 use Rattle.ion.specs.declared.Built.{Built}
-use Rattle.timestamp.proofs.Checks.{AllPass, Numbered, zero-pass, pass-next, fail-first}
+use Rattle.builder.proofs.Checks.{AllPass, Numbered, zero-pass, pass-next, fail-first}
 
 pub ranges-numbered : (f : BuilderFields) → Numbered (ranges f)
 ranges-numbered f = (tt, (tt, (tt, (tt, (tt, (tt, (tt, (tt, (tt, tt)))))))))

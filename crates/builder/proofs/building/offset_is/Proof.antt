@@ -1,9 +1,9 @@
--- `timestamp::building::offset_is` meets its contract. Assumes nothing.
+-- `builder::building::offset_is` meets its contract. Assumes nothing.
 use mathlib.Core.Path.{sym, ap}
 use borrow.Author.Needs.{needs}
 use Rattle.ion.specs.Build.{offsetIs}
-use Rattle.timestamp.proofs.building.offset_is.Statement.{statement}
-use Rattle.timestamp.proofs.building.offset_is.Tie as tie
+use Rattle.builder.proofs.building.offset_is.Statement.{statement}
+use Rattle.builder.proofs.building.offset_is.Tie as tie
 
 returns-2 : tie.Need-returns-2
 returns-2 c = ap offsetIs (sym (c .before .o .given .1))

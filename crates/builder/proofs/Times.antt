@@ -18,8 +18,8 @@ use Rattle.ion.proofs.Offsets.{raw-lt}
 use Rattle.calendar.proofs.Dates.{is-date, month-of, day-of}
 use Rattle.calendar.proofs.Shifts.{shifted-is}
 use Rattle.calendar.proofs.Room.{moved-room}
-use Rattle.timestamp.proofs.Checks.{AllPass}
-use Rattle.timestamp.proofs.Bounds.{precision-le, year-is}
+use Rattle.builder.proofs.Checks.{AllPass}
+use Rattle.builder.proofs.Bounds.{precision-le, year-is}
 
 -- fields in bounds with such a calendar day are a date and a time
 pub time-is : (f : BuilderFields) → InBounds f → isDay f ≡ true → IsDateTime (givenTime f)

@@ -1,10 +1,10 @@
 // The builder: the checks 1 to 9 in their order, then the route of the fields.
-use crate::answer::refused;
 use crate::local_route::build_local;
 use crate::utc_route::build_utc;
 use ion::BuilderFields;
 use ion::BuilderOffset;
 use ion::Built;
+use ion::MAX_ATTOSECONDS;
 use ion::offset;
 use ion::offset::Offset;
 use ion::refusal;
@@ -59,7 +59,7 @@ fn check_ranges(f: BuilderFields) -> u32
     let minute = f.minute;
     let second = f.second;
     let digits = f.digits;
-    if 1_000_000_000_000_000_000 <= attoseconds {
+    if MAX_ATTOSECONDS <= attoseconds {
         return refusal::FRACTION;
     }
     if 9999 < year {
@@ -89,13 +89,14 @@ fn check_ranges(f: BuilderFields) -> u32
     0
 }
 
-// The timestamp of the fields, or the number of the first check that fails.
-pub fn build(f: BuilderFields) -> Built
+// The timestamp of the fields, or the number of the first check that fails. Of fields that no stage gives it may make a pair
+// that the packed check refuses: only the stages and `build_fields` call it.
+pub(crate) fn build(f: BuilderFields) -> Built
     ensures { λ r. ⌜ r ≡ buildOf f ⌝ }
 {
     let n = check_ranges(f);
     if n != 0 {
-        return refused(n);
+        return Built::refused(n);
     }
     let o = offset_is(f);
     if is_utc(f) {

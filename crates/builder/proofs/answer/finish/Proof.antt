@@ -1,4 +1,4 @@
--- `timestamp::answer::finish` meets its contract. Assumes nothing.
+-- `builder::answer::finish` meets its contract. Assumes nothing.
 use mathlib.Core.Path.{_≡_, sym, ap, subst, _∙_}
 use Prim.Native.Nat.{ℕ}
 use borrow.Author.Needs.{needs}
@@ -6,8 +6,8 @@ use Rattle.ion.specs.Word.{InRange, wordOf}
 use Rattle.ion.specs.declared.Fields.{Fields}
 use Rattle.ion.specs.Pair.{pairIs}
 use Rattle.ion.specs.Build.{packedOf, accepted}
-use Rattle.timestamp.proofs.answer.finish.Statement.{statement}
-use Rattle.timestamp.proofs.answer.finish.Tie as tie
+use Rattle.builder.proofs.answer.finish.Statement.{statement}
+use Rattle.builder.proofs.answer.finish.Tie as tie
 
 -- the fields that are packed
 same : (c : tie.After-raw-of) → let a = c .before .before .before .args in _≡_ {A = Fields}

@@ -1,4 +1,4 @@
--- `timestamp::utc_route::build_utc` meets its contract. Assumes nothing.
+-- `builder::utc_route::build_utc` meets its contract. Assumes nothing.
 use mathlib.Core.Path.{_≡_, sym, ap, subst, _∙_}
 use mathlib.Core.Bool.{true, false}
 use native.Mathlib.Omega.{arith}
@@ -11,10 +11,10 @@ use Rattle.ion.specs.declared.DateTime.{DateTime}
 use Rattle.ion.specs.declared.offset.Offset.the-variants.{Known}
 use Rattle.calendar.proofs.Shifts.{shifted-is}
 use Rattle.calendar.proofs.Room.{moved-room}
-use Rattle.timestamp.proofs.Bounds.{year-is}
-use Rattle.timestamp.proofs.Times.{time-is, time-in-range}
-use Rattle.timestamp.proofs.utc_route.build_utc.Statement.{statement}
-use Rattle.timestamp.proofs.utc_route.build_utc.Tie as tie
+use Rattle.builder.proofs.Bounds.{year-is}
+use Rattle.builder.proofs.Times.{time-is, time-in-range}
+use Rattle.builder.proofs.utc_route.build_utc.Statement.{statement}
+use Rattle.builder.proofs.utc_route.build_utc.Tie as tie
 
 returns : tie.Need-returns
 returns c =

@@ -1,4 +1,4 @@
-// What the builder hands out: the number of a refusal, or the packed pair.
+// What the builder hands out where no check fails: the packed pair.
 use ion::BuilderFields;
 use ion::Built;
 use ion::DateTime;
@@ -10,19 +10,7 @@ use ion::offset::Offset;
 ghost use mathlib.Core.Path.{_≡_};
 ghost use Rattle.ion.specs.Offset.{WithinDay};
 ghost use Rattle.ion.specs.Word.{InRange};
-ghost use Rattle.ion.specs.Build.{precisionNumber, packedOf, pairAt, refusal, accepted};
-
-pub(crate) fn refused(number: u32) -> Built
-    ensures { λ r. ⌜ r ≡ refusal number ⌝ }
-{
-    Built {
-        number: number,
-        stamp: Timestamp {
-            packed_fields: 0,
-            attoseconds: 0,
-        },
-    }
-}
+ghost use Rattle.ion.specs.Build.{precisionNumber, packedOf, pairAt, accepted};
 
 fn precision_number(p: TimestampPrecision) -> u32
     ensures { λ r. ⌜ r ≡ precisionNumber p ⌝ }

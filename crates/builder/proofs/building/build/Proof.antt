@@ -1,15 +1,15 @@
--- `timestamp::building::build` meets its contract. Assumes nothing.
+-- `builder::building::build` meets its contract. Assumes nothing.
 use mathlib.Core.Path.{_≡_, sym, ap, subst, _∙_}
 use borrow.Author.Needs.{needs}
 use Rattle.ion.specs.Offset.{WithinDay, minutesIs, minutesOf}
 use Rattle.ion.specs.Build.{firstOf, ranges, offsetIs, localChecks, givenTime, pairAt, refusal, answer, buildOf}
 use Rattle.ion.specs.Accepted.{InBounds}
 use Rattle.ion.specs.declared.offset.Offset.{Offset}
-use Rattle.timestamp.proofs.Checks.{AllPass}
-use Rattle.timestamp.proofs.Bounds.{in-bounds}
-use Rattle.timestamp.proofs.Routes.{ranges-pass, routed-local, routed-utc, within-utc, build-routed, build-refused}
-use Rattle.timestamp.proofs.building.build.Statement.{statement}
-use Rattle.timestamp.proofs.building.build.Tie as tie
+use Rattle.builder.proofs.Checks.{AllPass}
+use Rattle.builder.proofs.Bounds.{in-bounds}
+use Rattle.builder.proofs.Routes.{ranges-pass, routed-local, routed-utc, within-utc, build-routed, build-refused}
+use Rattle.builder.proofs.building.build.Statement.{statement}
+use Rattle.builder.proofs.building.build.Tie as tie
 
 returns : tie.Need-returns
 returns c =

@@ -1,11 +1,11 @@
--- `timestamp::building::check_ranges` meets its contract. Assumes nothing.
+-- `builder::building::check_ranges` meets its contract. Assumes nothing.
 use mathlib.Core.Path.{_≡_, sym, _∙_}
 use mathlib.Core.Bool.{true, false}
 use borrow.Author.Needs.{needs}
 use Rattle.ion.specs.Build.{outside}
 use borrow.Author.Tests.{lt-ltb, le-ltb, lt-leb, le-leb}
-use Rattle.timestamp.proofs.building.check_ranges.Statement.{statement}
-use Rattle.timestamp.proofs.building.check_ranges.Tie as tie
+use Rattle.builder.proofs.building.check_ranges.Statement.{statement}
+use Rattle.builder.proofs.building.check_ranges.Tie as tie
 
 returns : tie.Need-returns
 returns c = simp (le-leb _ _ (c .if1 .taken))

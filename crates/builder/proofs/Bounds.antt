@@ -14,7 +14,7 @@ use Rattle.ion.specs.declared.BuilderOffset.{BuilderOffset}
 use Rattle.ion.specs.declared.BuilderOffset.the-variants.{Unknown, FromLocalFields, FromUtcFields}
 use Rattle.ion.specs.declared.TimestampPrecision.{TimestampPrecision}
 use Rattle.ion.specs.declared.TimestampPrecision.the-variants.{Year, Month, Day, HourAndMinute, Second}
-use Rattle.timestamp.proofs.Checks.{AllPass}
+use Rattle.builder.proofs.Checks.{AllPass}
 
 offset-is : (z : ℤ) → not (isOffset z) ≡ false → natAbs z < 1440
 offset-is z e = ltb-true (natAbs z) 1440 (not-false (isOffset z) e)

@@ -1,10 +1,10 @@
--- `timestamp::building::is_outside` meets its contract. Assumes nothing.
+-- `builder::building::is_outside` meets its contract. Assumes nothing.
 use mathlib.Core.Path.{sym, ap, _∙_}
 use mathlib.Core.Bool.{not}
 use borrow.Author.Needs.{needs}
 use Rattle.ion.specs.Build.{outside}
-use Rattle.timestamp.proofs.building.is_outside.Statement.{statement}
-use Rattle.timestamp.proofs.building.is_outside.Tie as tie
+use Rattle.builder.proofs.building.is_outside.Statement.{statement}
+use Rattle.builder.proofs.building.is_outside.Tie as tie
 
 returns-2 : tie.Need-returns-2
 returns-2 c = ap not (c .is-offset .ensures) ∙ ap outside (sym (c .before .before .o .given .1))

@@ -1,6 +1,5 @@
 // Building from local fields.
 use crate::answer::finish;
-use crate::answer::refused;
 use ion::BuilderFields;
 use ion::Built;
 use ion::Date;
@@ -47,10 +46,10 @@ pub(crate) fn build_local(f: BuilderFields, o: Offset) -> Built
     let year = is_year(f.year);
     let day = is_day(f);
     if !year {
-        return refused(refusal::LOCAL_YEAR);
+        return Built::refused(refusal::LOCAL_YEAR);
     }
     if !day {
-        return refused(refusal::NO_DAY);
+        return Built::refused(refusal::NO_DAY);
     }
     finish(f, given_time(f), o)
 }

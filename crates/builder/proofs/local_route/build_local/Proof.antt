@@ -1,4 +1,4 @@
--- `timestamp::local_route::build_local` meets its contract. Assumes nothing.
+-- `builder::local_route::build_local` meets its contract. Assumes nothing.
 use mathlib.Core.Path.{_≡_, sym, ap, subst, _∙_}
 use mathlib.Core.Bool.{true, false}
 use native.Mathlib.Omega.{arith}
@@ -7,9 +7,9 @@ use borrow.Author.Tests.{not-true, not-false}
 use Rattle.ion.specs.Word.{InRange}
 use Rattle.ion.specs.Build.{isYear, isDay, givenTime, packedOf, pairAt, accepted}
 use Rattle.ion.specs.declared.DateTime.{DateTime}
-use Rattle.timestamp.proofs.Times.{time-is, time-in-range}
-use Rattle.timestamp.proofs.local_route.build_local.Statement.{statement}
-use Rattle.timestamp.proofs.local_route.build_local.Tie as tie
+use Rattle.builder.proofs.Times.{time-is, time-in-range}
+use Rattle.builder.proofs.local_route.build_local.Statement.{statement}
+use Rattle.builder.proofs.local_route.build_local.Tie as tie
 
 returns : tie.Need-returns
 returns c =

@@ -1,6 +1,5 @@
 // Building from UTC fields, which an offset moves to local ones.
 use crate::answer::finish;
-use crate::answer::refused;
 use crate::local_route::given_time;
 use crate::local_route::is_day;
 use crate::local_route::is_year;
@@ -19,11 +18,11 @@ pub(crate) fn build_utc(f: BuilderFields, m: OffsetMinutes) -> Built
     ensures { λ r. ⌜ r ≡ answer (firstOf (utcChecks f m)) (pairAt f (movedTime f m) (Offset.Known m)) ⌝ }
 {
     if !is_day(f) {
-        return refused(refusal::NO_DAY);
+        return Built::refused(refusal::NO_DAY);
     }
     let local = calendar::add_offset_to_utc(given_time(f), m);
     if !is_year(local.year) {
-        return refused(refusal::LOCAL_YEAR);
+        return Built::refused(refusal::LOCAL_YEAR);
     }
     finish(f, local, Offset::Known(m))
 }

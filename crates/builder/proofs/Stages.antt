@@ -1,17 +1,19 @@
--- Whatever the stages give is staged. Assumes nothing.
+-- What the stages give: no stage drops a field, and fields that were not given have their first values. `Gives` has a constructor for each
+-- setter's definition, so it holds of the fields inside every stage. Assumes nothing.
 use mathlib.Core.Path.{_≡_, refl, sym, ap, subst}
 use Prim.Native.Nat.{ℕ, _%_, _^_, _<_}
 use native.Mathlib.Omega.{arith}
 use Rattle.ion.specs.Fraction.{scale}
 use Rattle.ion.specs.Build.{precisionNumber}
 use Rattle.ion.specs.Accepted.{Staged}
-use Rattle.ion.specs.Stages.{fieldsAre, withMonth, withDay, withHour, withHourAndMinute, withMinute, withSecond, withFraction, withOffset, Stage, hasYear, hasMonth, hasDay, hasHour, hasMinute, hasSeconds, hasFraction, hasOffset, Offsets, Gives}
+use Rattle.ion.specs.Stages.{fieldsAre, withYear, withMonth, withDay, withHour, withHourAndMinute, withMinute, withSecond, withFraction, withOffset, Stage, hasYear, hasMonth, hasDay, hasHour, hasMinute, hasSeconds, hasFraction, hasOffset, Offsets, Gives}
 use Rattle.ion.specs.Stages as stages
 use Rattle.ion.specs.declared.BuilderFields.{BuilderFields}
 use Rattle.ion.specs.declared.BuilderOffset.{BuilderOffset}
 use Rattle.ion.specs.declared.BuilderOffset.the-variants.{Unknown, FromLocalFields, FromUtcFields}
 use Rattle.ion.specs.declared.TimestampPrecision.{TimestampPrecision}
 use Rattle.ion.specs.declared.TimestampPrecision.the-variants.{Year, Month, Day, HourAndMinute, Second}
+use Rattle.ion.specs.declared.Fraction.{Fraction}
 use Rattle.fraction.proofs.Multiples.{multiple}
 
 -- a fraction has no more than its digits, or is no fraction
@@ -107,3 +109,20 @@ staged-at hasOffset f s = s
 
 pub gives-staged : {t : Stage} {f : BuilderFields} → Gives t f → Staged f
 gives-staged {t} {f} g = staged-at t f (at-stage g)
+
+-- ---- what is kept
+
+-- the last stage has every field that was given
+pub all-kept : (y mo d h mi s : ℕ) (x : Fraction) (o : BuilderOffset)
+    → withOffset (withFraction (withSecond (withMinute (withHour (withDay (withMonth (withYear y) mo) d) h) mi) s) x) o
+    ≡ fieldsAre Second o y mo d h mi s (x .attoseconds) (x .digits)
+all-kept y mo d h mi s x o = refl
+
+-- an hour without its minute is minute 0, at the same precision
+pub hour-alone : (y mo d h : ℕ) (o : BuilderOffset)
+    → withOffset (withHour (withDay (withMonth (withYear y) mo) d) h) o ≡ fieldsAre HourAndMinute o y mo d h 0 0 0 0
+hour-alone y mo d h o = refl
+
+-- an hour and a minute at once are one after the other
+pub both-one-by-one : (f : BuilderFields) (h mi : ℕ) → withHourAndMinute f h mi ≡ withMinute (withHour f h) mi
+both-one-by-one f h mi = refl
