@@ -11,7 +11,8 @@ use Rattle.ion.specs.Shift.{dateOf, shifted}
 use Rattle.ion.specs.declared.DateTime.{DateTime}
 use Rattle.exports.specs.declared.shifting.Moved.{Moved}
 
--- the number of a shift of no date and time of the years 0 to 10000, or by minutes of no offset; above all of document 01's
+-- the number of a shift of no date and time of the years 0 to 10000, or by minutes of no offset: of tests alone, and above all of the
+-- table's
 abbrev pub notMovable : ℕ
 notMovable = 102
 

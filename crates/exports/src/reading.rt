@@ -4,6 +4,7 @@ use crate::answers::hand_decimal;
 use crate::answers::hand_field;
 use crate::answers::hand_offset;
 use crate::answers::pair;
+use field_sets::UNKNOWN_CODE;
 use ion::Field;
 use ion::Timestamp;
 ghost use mathlib.Core.Path.{_≡_};
@@ -24,12 +25,12 @@ fn field_by(code: u32, s: Timestamp) -> Field
         4 => timestamp_fields::minute(s),
         5 => timestamp_fields::second(s),
         6 => timestamp_fields::precision(s),
-        7 => timestamp_fields::fractional_digits(s),
+        7 => timestamp_fields::fractional_seconds_scale(s),
         8 => timestamp_fields::milliseconds(s),
         9 => timestamp_fields::microseconds(s),
         10 => timestamp_fields::nanoseconds(s),
         _ => Field {
-            number: 101,
+            number: UNKNOWN_CODE,
             value: 0,
         },
     }
@@ -78,7 +79,7 @@ pub extern "C" fn timestamp_fractional_seconds(
     ensures { λ r. ⌜ DecimalIs (decimalFieldOf (pairIs word attoseconds)) r (now (coefficient .exit)) (now (exponent .exit)) ⌝ }
 {
     hand_decimal(
-        timestamp_fields::fractional_seconds(pair(word, attoseconds)),
+        timestamp_fields::fractional_seconds_as_decimal(pair(word, attoseconds)),
         coefficient,
         exponent,
     )

@@ -5,6 +5,9 @@ use ion::offset::OffsetMinutes;
 ghost use mathlib.Core.Path.{_≡_};
 ghost use Rattle.exports.specs.Shifting.{isMovable, movedBy, MovedIs};
 
+// The number of a shift of no date and time of the years 0 to 10000, or by minutes of no offset: of tests alone.
+const NOT_MOVABLE: u32 = 102;
+
 // A number, and a date and time: zeros beside a refusal.
 pub struct Moved {
     pub number: u32,
@@ -28,7 +31,7 @@ fn move_by(t: DateTime, m: OffsetMinutes) -> Moved
 {
     if !is_movable(t, m) {
         return Moved {
-            number: 102,
+            number: NOT_MOVABLE,
             time: DateTime {
                 year: 0,
                 month: 0,

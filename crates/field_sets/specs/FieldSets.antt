@@ -13,7 +13,7 @@ use Rattle.ion.specs.declared.BuilderFields.{BuilderFields}
 use Rattle.ion.specs.declared.BuilderOffset.the-variants.{FromLocalFields, FromUtcFields}
 use Rattle.field_sets.specs.declared.FieldSet.{FieldSet}
 
--- the number of a field set with a code that stands for nothing, above all of document 01's
+-- the number of a field set with a code that stands for nothing: of tests alone, and above all of the table's
 abbrev pub unknownCode : ℕ
 unknownCode = 101
 

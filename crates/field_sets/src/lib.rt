@@ -4,10 +4,12 @@ mod offsets;
 mod staged;
 
 use ion::Built;
-use ion::Timestamp;
 use staged::build_staged;
 ghost use mathlib.Core.Path.{_≡_};
 ghost use Rattle.field_sets.specs.FieldSets.{isCoded, builtFrom};
+
+// The number of a code that stands for nothing: of tests alone, and above all of the table's.
+pub const UNKNOWN_CODE: u32 = 101;
 
 // A field set in numbers: what each means is said in specs/FieldSets.antt.
 pub struct FieldSet {
@@ -42,13 +44,7 @@ pub fn build_from(x: FieldSet) -> Built
     ensures { λ r. ⌜ r ≡ builtFrom x ⌝ }
 {
     if !is_coded(x) {
-        return Built {
-            number: 101,
-            stamp: Timestamp {
-                packed_fields: 0,
-                attoseconds: 0,
-            },
-        };
+        return Built::refused(UNKNOWN_CODE);
     }
     build_staged(x)
 }

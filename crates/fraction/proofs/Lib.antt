@@ -4,3 +4,4 @@ pub mod Caps
 pub mod Exponents
 pub mod Quotients
 pub mod Multiples
+pub mod Exact

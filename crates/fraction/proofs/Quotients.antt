@@ -22,9 +22,9 @@ past n d h =
     let e : min d 38 ≡ min (d - 18) 20 + 18 = omega arith in
     sym (rw (e, pow-add 10 (min (d - 18) 20) 18) (mul-div-mul-right n (10 ^ min (d - 18) 20) (power-pos 18)))
 
--- a number of 64 bits loses them all with twenty
-none-left : (n k : ℕ) → n < 2 ^ 64 → 20 ≤ k → n / 10 ^ k ≡ 0
-none-left n k h l = div-eq-of-lt (lt-of-lt-of-le (lt-trans h (lit< tt)) (pow-le-pow-right {n = 10} (lit< tt) l))
+-- a number of m digits loses them all with m or more
+pub none-left : (n m k : ℕ) → n < 10 ^ m → m ≤ k → n / 10 ^ k ≡ 0
+none-left n m k h l = div-eq-of-lt (lt-of-lt-of-le h (pow-le-pow-right {n = 10} (lit< tt) l))
 
 -- and with more than eighteen it is divided twice
 pub twice : (n d : ℕ) → n < 2 ^ 64 → 18 < d → n / 10 ^ 18 / 10 ^ min (d - 18) 18 ≡ n / 10 ^ min d 20
@@ -32,4 +32,6 @@ twice n d h l = div-div-eq-div-mul n (10 ^ 18) (10 ^ min (d - 18) 18) ∙ ap (λ
   where
     go : Dec (d ≤ 20) → n / 10 ^ (18 + min (d - 18) 18) ≡ n / 10 ^ min d 20
     go (yes k) = let e : 18 + min (d - 18) 18 ≡ min d 20 = omega arith in ap (λ (m : ℕ). n / 10 ^ m) e
-    go (no k) = none-left n (18 + min (d - 18) 18) h (omega arith) ∙ sym (none-left n (min d 20) h (omega arith))
+    go (no k) =
+        let twenty : n < 10 ^ 20 = lt-trans h (lit< tt) in
+        none-left n 20 (18 + min (d - 18) 18) twenty (omega arith) ∙ sym (none-left n 20 (min d 20) twenty (omega arith))

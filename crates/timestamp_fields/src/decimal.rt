@@ -7,7 +7,7 @@ ghost use mathlib.Core.Path.{_≡_};
 ghost use Rattle.ion.specs.Reads.{decimalFieldOf};
 
 // Its digits as the coefficient, and minus their number as the exponent.
-pub fn fractional_seconds(s: Timestamp) -> DecimalField
+pub fn fractional_seconds_as_decimal(s: Timestamp) -> DecimalField
     ensures { λ r. ⌜ r ≡ decimalFieldOf s ⌝ }
 {
     let attoseconds = s.attoseconds;

@@ -66,7 +66,7 @@ pub fn precision(s: Timestamp) -> Field
 }
 
 // How many digits the fraction has.
-pub fn fractional_digits(s: Timestamp) -> Field
+pub fn fractional_seconds_scale(s: Timestamp) -> Field
     ensures { λ r. ⌜ r ≡ digitsFieldOf s ⌝ }
 {
     field(s, packed::digits(s.packed_fields))

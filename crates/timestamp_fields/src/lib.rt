@@ -5,9 +5,9 @@ mod local_offset;
 mod units;
 mod whole;
 
-pub use decimal::fractional_seconds;
+pub use decimal::fractional_seconds_as_decimal;
 pub use fields::day;
-pub use fields::fractional_digits;
+pub use fields::fractional_seconds_scale;
 pub use fields::hour;
 pub use fields::minute;
 pub use fields::month;

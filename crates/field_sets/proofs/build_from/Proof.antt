@@ -10,8 +10,9 @@ use Rattle.field_sets.proofs.build_from.Tie as tie
 returns : tie.Need-returns
 unfolding builtFrom
 returns c =
-    let h : isCoded (c .before .before .args .x) ≡ false = sym (c .before .is-coded .ensures) ∙ not-true _ (c .if1 .taken) in
-    simp h
+    let e = c .before in
+    let h : isCoded (e .before .before .args .x) ≡ false = sym (e .before .is-coded .ensures) ∙ not-true _ (e .if1 .taken) in
+    simp h (c .refused .ensures)
 
 returns-2 : tie.Need-returns-2
 unfolding builtFrom
@@ -21,4 +22,4 @@ returns-2 c =
     simp h (c .build-staged .ensures)
 
 pub build-from-spec : {M : Type 1} → statement M
-build-from-spec = tie.close (tie.spec (λ c κs. search needs) returns (λ c κs. search needs) returns-2)
+build-from-spec = tie.close (tie.spec (λ c κs. search needs) (λ c κs. search needs) returns (λ c κs. search needs) returns-2)

@@ -43,7 +43,7 @@ returns-7 c = rw (c .before .match .keys7) (c .precision .ensures)
 
 returns-8 : tie.Need-returns-8
 unfolding fieldBy
-returns-8 c = rw (c .before .match .keys8) (c .fractional-digits .ensures)
+returns-8 c = rw (c .before .match .keys8) (c .fractional-seconds-scale .ensures)
 
 returns-9 : tie.Need-returns-9
 unfolding fieldBy

@@ -6,7 +6,7 @@ use Rattle.exports.proofs.reading.timestamp_fractional_seconds.Tie as t
 returns : tie.Need-returns
 returns c =
     let o = c .before .before .before in
-    rw (o .fractional-seconds .ensures, o .before .pair .ensures) at (c .hand-decimal .ensures)
+    rw (o .fractional-seconds-as-decimal .ensures, o .before .pair .ensures) at (c .hand-decimal .ensures)
 
 pub timestamp-fractional-seconds-spec : {M : Type 1} → statement M
 timestamp-fractional-seconds-spec = tie.close (tie.spec (λ c κs. search needs) (λ c κs. search needs) (λ c κs. search needs) returns)

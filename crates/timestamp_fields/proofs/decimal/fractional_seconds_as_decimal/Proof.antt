@@ -1,4 +1,4 @@
--- `timestamp_fields::decimal::fractional_seconds` meets its contract. Assumes nothing.
+-- `timestamp_fields::decimal::fractional_seconds_as_decimal` meets its contract. Assumes nothing.
 use mathlib.Core.Path.{_≡_, sym, ap, _∙_}
 use mathlib.Core.Bool.{false}
 use Prim.Native.Nat.{ℕ, _/_, _^_, _<_}
@@ -16,8 +16,8 @@ use Rattle.ion.specs.Reads.{decimalIn, zeroDecimal, decimalFieldOf}
 use Rattle.ion.specs.declared.Decimal.{Decimal}
 use Rattle.fraction.proofs.Scales.{scale-pos}
 use Rattle.timestamp.proofs.Told.{if-zero, if-refused}
-use Rattle.timestamp_fields.proofs.decimal.fractional_seconds.Statement.{statement}
-use Rattle.timestamp_fields.proofs.decimal.fractional_seconds.Tie as tie
+use Rattle.timestamp_fields.proofs.decimal.fractional_seconds_as_decimal.Statement.{statement}
+use Rattle.timestamp_fields.proofs.decimal.fractional_seconds_as_decimal.Tie as tie
 
 returns : tie.Need-returns
 unfolding decimalFieldOf
@@ -57,8 +57,8 @@ returns-2 c =
     let v : _≡_ {A = Decimal} (record { negative = false; coefficient = s .attoseconds / c .scale .result; exponent = pos 0 -ℤ pos n }) d = λ i. record { negative = false; coefficient = q i; exponent = x i } in
     simp (toZ-ofZ, toZ-pos w64) (λ i. record { number = sym e i; value = (v ∙ sym (if-zero _ d zeroDecimal e)) i })
 
-pub fractional-seconds-spec : {M : Type 1} → statement M
-fractional-seconds-spec =
+pub fractional-seconds-as-decimal-spec : {M : Type 1} → statement M
+fractional-seconds-as-decimal-spec =
     tie.close
     (tie.spec
     (λ c κs. search needs)
