@@ -1,4 +1,4 @@
--- P1 to P12 of document 01, as one table of rows and one theorem: what the definitions give at each row is what the paper states.
+-- P1 to P12 of the scope, as one table of rows and one theorem: what the definitions give at each row is what the scope states.
 -- Assumes nothing.
 use Prim.Native.Nat.{ℕ, _+_, _*_, _^_}
 use mathlib.Core.Bool.{Bool, true, false}
@@ -47,7 +47,7 @@ data Answer : Type 0 where
   -- sign, seconds and attoseconds
   distance : ℤ → ℕ → ℕ → Answer
 
--- a point of the paper, what the definitions give, and what the paper states
+-- a point of the paper, what the definitions give, and what the scope states
 record Row : Type 0 where
   point : ℕ
   given : Answer

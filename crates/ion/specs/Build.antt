@@ -1,4 +1,4 @@
--- Building a timestamp: document 01's checks in their order, and the packed pair. Assumes nothing.
+-- Building a timestamp: the scope's checks in their order, and the packed pair. Assumes nothing.
 use Prim.Native.Nat.{ℕ, _^_}
 use mathlib.Core.Bool.{Bool, true, false, not, cond, _&&_}
 use mathlib.Core.List.{List, [], _∷_, _++_}

@@ -40,7 +40,7 @@ digitsOf (pos n) = 0
 digitsOf (negsuc n) = suc n
 
 -- a 64-bit coefficient times 10^-digits, in attoseconds: those past the eighteenth digit are dropped, and from 38 digits on that is
--- all of it. An exponent above 0 only makes a second or more larger.
+-- all of it. An exponent above 0 only makes a second or more larger. `attoseconds-exact` and `decimal-exact` of crate fraction say so.
 abbrev pub attosecondsOf : ℕ → ℕ → ℕ
 attosecondsOf c digits = c * 10 ^ 18 / 10 ^ min digits 38
 

@@ -1,4 +1,4 @@
--- The numbers of document 01's table; 0 means accepted. Assumes nothing.
+-- The numbers of the scope's table (docs/SCOPE.md); 0 means accepted. Assumes nothing.
 use Prim.Native.Nat.{ℕ}
 
 -- fraction below 0, or 1 and above
