@@ -1,5 +1,5 @@
 -- The local time of fields that pass the builder's checks. Assumes nothing.
-use mathlib.Core.Path.{_≡_}
+use mathlib.Core.Path.{_≡_, ap}
 use mathlib.Core.Bool.{true}
 use Prim.Native.Nat.{_≤_}
 use native.Mathlib.Omega.{arith}
@@ -7,15 +7,16 @@ use borrow.Author.Tests.{not-false}
 use Rattle.ion.specs.Shift.{IsDateTime, dateOf}
 use Rattle.ion.specs.Offset.{WithinDay}
 use Rattle.ion.specs.Word.{InRange}
-use Rattle.ion.specs.Build.{isYear, isDay, offsetIs, routeChecks, localChecks, givenTime, movedTime, localTime, packedOf}
-use Rattle.ion.specs.Accepted.{InBounds}
+use Rattle.ion.specs.Build.{precisionNumber, isYear, isDay, offsetIs, routeChecks, localChecks, givenTime, movedTime, localTime, packedOf}
+use Rattle.ion.specs.Accepted.{InBounds, Staged}
 use Rattle.ion.specs.declared.DateTime.{DateTime}
 use Rattle.ion.specs.declared.BuilderFields.{BuilderFields}
 use Rattle.ion.specs.declared.BuilderOffset.{BuilderOffset}
 use Rattle.ion.specs.declared.BuilderOffset.the-variants.{Unknown, FromLocalFields, FromUtcFields}
+use Rattle.ion.specs.declared.TimestampPrecision.the-variants.{Year}
 use Rattle.ion.specs.declared.offset.Offset.{Offset}
 use Rattle.ion.proofs.Offsets.{raw-lt}
-use Rattle.calendar.proofs.Dates.{is-date, month-of, day-of}
+use Rattle.calendar.proofs.Dates.{is-date, first-day-is, month-of, day-of}
 use Rattle.calendar.proofs.Shifts.{shifted-is}
 use Rattle.calendar.proofs.Room.{moved-room}
 use Rattle.builder.proofs.Checks.{AllPass}
@@ -24,7 +25,15 @@ use Rattle.builder.proofs.Bounds.{precision-le, year-is}
 -- fields in bounds with such a calendar day are a date and a time
 pub time-is : (f : BuilderFields) → InBounds f → isDay f ≡ true → IsDateTime (givenTime f)
 time-is f b e =
-    record { date = is-date (dateOf (givenTime f)) (omega (arith, b .year)) e; hours = omega (arith, b .hour); minutes = omega (arith, b .minute) }
+    record { date = is-date (dateOf (givenTime f)) e; hours = omega (arith, b .hour); minutes = omega (arith, b .minute) }
+
+-- check 10 is for a month or finer: it never refuses a year alone
+pub year-alone : (b : BuilderFields) → Staged b → b .precision ≡ Year → isDay b ≡ true
+year-alone b s e =
+    let p = ap precisionNumber e in
+    let m : b .month ≡ 1 = s .month (omega (arith, p)) in
+    let d : b .day ≡ 1 = s .day (omega (arith, p)) in
+    simp (m, d) (first-day-is (b .year))
 
 -- a date and a time in a year that fits have room in the word
 pub time-in-range : (f : BuilderFields) (t : DateTime) (o : Offset) → InBounds f → IsDateTime t → t .year ≤ 10000 → WithinDay o → InRange (packedOf f t o)

@@ -1,5 +1,5 @@
 -- Dates: what is a date, the number of one, and the order that the number keeps. Assumes nothing.
-use mathlib.Core.Path.{_≡_, sym}
+use mathlib.Core.Path.{_≡_, refl, sym}
 use mathlib.Core.Logic.{_⊎_, inl, inr}
 use mathlib.Core.Bool.{true, false, _&&_, and-false, and-eq-true-iff}
 use Prim.Native.Nat.{ℕ, _+_, _-_, _≤_, _<_}
@@ -7,11 +7,11 @@ use native.Mathlib.Decide.{decLe, decLt}
 use native.Mathlib.Omega.{arith}
 use lib.Dec.{leb}
 use borrow.Author.Tests.{leb-true, le-leb, lt-leb}
-use Rattle.ion.specs.Calendar.{isLeap, monthLengthOf, monthLength, yearLength, sumBelow, monthStart, dayNumber, IsDate, Earlier, daysInMonth, isDate}
+use Rattle.ion.specs.Calendar.{isLeap, monthLengthOf, monthLength, yearLength, sumBelow, monthStart, dayNumber, IsDate, Earlier, isDate}
 use Rattle.ion.specs.declared.Date.{Date}
 use Rattle.calendar.proofs.Sums.{sum-past}
 use Rattle.calendar.proofs.Years.{leapsBefore, leap-day-le, year-start}
-use Rattle.calendar.proofs.Months.{picker-length, picker-none, month-least, month-from-one, month-to-twelve, month-most, months-year}
+use Rattle.calendar.proofs.Months.{month-least, month-from-one, month-to-twelve, month-most, months-year}
 
 -- ---- what is a date
 
@@ -29,44 +29,42 @@ module _ (t : Date) (p : IsDate t) where
   pub day-of : t .day ≤ 31
   day-of = omega (arith, p .last, month-most (isLeap (t .year)) (t .month))
 
--- a date that passed the test, and the test of a date, up to the year 10000
-module _ (t : Date) (h : t .year ≤ 10000) where
+-- a date that passed the test, and the test of a date
+module _ (t : Date) where
+  -- those of its month
+  abbrev days : ℕ
+  days = monthLength (t .year) (t .month)
+
   pub is-date : isDate t ≡ true → IsDate t
   is-date e =
-      let b = and-eq-true-iff (leb 1 (t .day)) (leb (t .day) (daysInMonth (t .year) (t .month))) .0 e in
-      record {
-        first = leb-true 1 (t .day) (b .0);
-        last = omega (arith, leb-true (t .day) (daysInMonth (t .year) (t .month)) (b .1), picker-length (t .year) (t .month) h);
-      }
+      let b = and-eq-true-iff (leb 1 (t .day)) (leb (t .day) days) .0 e in
+      record { first = leb-true 1 (t .day) (b .0); last = leb-true (t .day) days (b .1) }
 
   pub date-is : IsDate t → isDate t ≡ true
-  date-is p =
-      and-eq-true-iff (leb 1 (t .day)) (leb (t .day) (daysInMonth (t .year) (t .month))) .1
-      (le-leb 1 (t .day) (p .first), le-leb (t .day) (daysInMonth (t .year) (t .month)) (omega (arith, p .last, picker-length (t .year) (t .month) h)))
+  date-is p = and-eq-true-iff (leb 1 (t .day)) (leb (t .day) days) .1 (le-leb 1 (t .day) (p .first), le-leb (t .day) days (p .last))
 
--- up to day 28 the year and the month decide
-pub low-day : (t : Date) → 1 ≤ t .day → t .day ≤ 28 → (leb (t .year) 10000 && leb 1 (t .month) && leb (t .month) 12) ≡ isDate t
-low-day t h k = go (decLe (t .year) 10000) (decLe 1 (t .month)) (decLe (t .month) 12)
+-- up to day 28 the month decides
+pub low-day : (t : Date) → 1 ≤ t .day → t .day ≤ 28 → (leb 1 (t .month) && leb (t .month) 12) ≡ isDate t
+low-day t h k = go (decLe 1 (t .month)) (decLe (t .month) 12)
   where
-    days : ℕ
-    days = daysInMonth (t .year) (t .month)
+    none : (0 < days t → ⊥) → isDate t ≡ false
+    none n = let l : days t < t .day = omega (arith, h, n) in simp (lt-leb (t .day) (days t) l, and-false)
 
-    none : (0 < days → ⊥) → isDate t ≡ false
-    none n = let l : days < t .day = omega (arith, h, n) in simp (lt-leb (t .day) days l, and-false)
-
-    go : Dec (t .year ≤ 10000) → Dec (1 ≤ t .month) → Dec (t .month ≤ 12) → (leb (t .year) 10000 && leb 1 (t .month) && leb (t .month) 12) ≡ isDate t
-    go (yes y) (yes m) (yes n) =
-        let p = date-is t y (record { first = h; last = omega (arith, k, month-least (isLeap (t .year)) (t .month) m n) }) in
-        simp (le-leb _ _ y, le-leb _ _ m, le-leb _ _ n) (sym p)
-    go (yes y) (yes m) (no n) =
+    go : Dec (1 ≤ t .month) → Dec (t .month ≤ 12) → (leb 1 (t .month) && leb (t .month) 12) ≡ isDate t
+    go (yes m) (yes n) =
+        let p = date-is t (record { first = h; last = omega (arith, k, month-least (isLeap (t .year)) (t .month) m n) }) in
+        simp (le-leb _ _ m, le-leb _ _ n) (sym p)
+    go (yes m) (no n) =
         let l : 12 < t .month = omega (arith, n) in
-        simp (lt-leb _ _ l, and-false) (sym (none (λ d. n (month-to-twelve (isLeap (t .year)) (t .month) (omega (arith, d, picker-length (t .year) (t .month) y))))))
-    go (yes y) (no m) n =
+        simp (lt-leb _ _ l, and-false) (sym (none (λ d. n (month-to-twelve (isLeap (t .year)) (t .month) d))))
+    go (no m) n =
         let l : t .month < 1 = omega (arith, m) in
-        simp (lt-leb _ _ l, and-false) (sym (none (λ d. m (month-from-one (isLeap (t .year)) (t .month) (omega (arith, d, picker-length (t .year) (t .month) y))))))
-    go (no y) m n =
-        let l : 10000 < t .year = omega (arith, y) in
-        simp (lt-leb _ _ l) (sym (none (λ d. y (omega (arith, d, picker-none (t .year) (t .month) l)))))
+        simp (lt-leb _ _ l) (sym (none (λ d. m (month-from-one (isLeap (t .year)) (t .month) d))))
+
+-- every year has a first day
+pub first-day-is : (y : ℕ) → isDate (record { year = y; month = 1; day = 1 }) ≡ true
+unfolding monthLengthOf
+first-day-is y = refl
 
 -- ---- the number
 

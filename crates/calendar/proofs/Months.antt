@@ -11,7 +11,7 @@ use lib.Dec.{T, eqb, leb, ltb, eqb→eq, leb→le}
 use lib.ListN.{length, getD, List·getD-eq-default}
 use borrow.Author.Tests.{lt-ltb, le-ltb, ne-eqb}
 use Rattle.places.proofs.Table.{every, at}
-use Rattle.ion.specs.Calendar.{leapDay, monthLengths, monthLengthOf, monthLength, sumBelow, daysInMonth}
+use Rattle.ion.specs.Calendar.{leapDay, monthLengths, monthLengthOf, sumBelow}
 use Rattle.calendar.proofs.Sums.{sum-past}
 
 -- ---- what a table says of each month
@@ -28,13 +28,6 @@ by-table f shares xs t u true m h = eqb→eq _ _ (at (entryIs f shares true) xs 
 by-table f shares xs t u false m h = eqb→eq _ _ (at (entryIs f shares false) xs u m h)
 
 -- ---- lengths
-
--- up to year 10000 the picker is told the month's length, and then nothing
-pub picker-length : (y m : ℕ) → y ≤ 10000 → daysInMonth y m ≡ monthLength y m
-picker-length y m h = simp (le-ltb 10000 y h)
-
-pub picker-none : (y m : ℕ) → 10000 < y → daysInMonth y m ≡ 0
-picker-none y m h = simp (lt-ltb 10000 y h)
 
 pub no-month : (leap : Bool) (m : ℕ) → 12 < m → monthLengthOf leap m ≡ 0
 unfolding monthLengthOf

@@ -3,7 +3,7 @@ use mathlib.Core.Path.{_≡_, refl, sym, ap₂, _∙_}
 use Prim.Native.Nat.{_+_, _*_, _≤_, _<_}
 use native.Mathlib.Decide.{decLe}
 use native.Mathlib.Omega.{arith}
-use lib.Dec.{lit<, lit≤}
+use lib.Dec.{lit<}
 use lib.IntN.{ℤ, pos, negsuc, natAbs, _+ℤ_}
 use Rattle.integers.specs.Floor.{floorDiv}
 use Rattle.integers.proofs.Parts.{down, apart, natAbs-parts, add-parts, floor-div-parts, parts-eq}
@@ -11,15 +11,15 @@ use Rattle.ion.specs.Calendar.{isLeap, monthLengthOf, sumBelow, dayNumber, IsDa
 use Rattle.ion.specs.Shift.{IsDateTime, dateOf, minuteNumber, addDays, shifted}
 use Rattle.ion.specs.declared.Date.{Date}
 use Rattle.ion.specs.declared.DateTime.{DateTime}
-use Rattle.calendar.proofs.Dates.{day-number-inj}
+use Rattle.calendar.proofs.Dates.{is-date, first-day-is, day-number-inj}
 
 -- the first day has number 0, and the day before it is in year 0
 first : Date
 first = record { year = 0; month = 1; day = 1 }
 
 first-is : IsDate first
-unfolding first isLeap monthLengthOf
-first-is = record { first = lit≤ tt; last = lit≤ tt }
+unfolding first
+first-is = is-date first (first-day-is 0)
 
 first-number : dayNumber first ≡ 0
 unfolding first isLeap monthLengthOf sumBelow

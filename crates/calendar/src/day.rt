@@ -2,8 +2,8 @@
 ghost use mathlib.Core.Path.{_≡_};
 ghost use Prim.Native.Nat.{_≤_};
 ghost use Rattle.ion.specs.Calendar.{IsDate, yearStart, monthStart, dayNumber, nextDay, prevDay};
-use crate::month::days_in_month;
 use crate::month::is_leap;
+use crate::month::month_length;
 use ion::Date;
 
 // The number of 1 January, in closed form: years of 365 days, and a day for each leap year before.
@@ -46,7 +46,7 @@ pub fn next_day(date: Date) -> Date
     requires { ⌜ (date .year ≤ 10000) × IsDate date ⌝ }
     ensures { λ r. ⌜ r ≡ nextDay date ⌝ }
 {
-    let days = days_in_month(date.year, date.month);
+    let days = month_length(date.year, date.month);
     if date.day < days {
         return Date {
             year: date.year,
@@ -81,7 +81,7 @@ pub fn prev_day(date: Date) -> Date
         };
     }
     if 1 < date.month {
-        let days = days_in_month(date.year, date.month - 1);
+        let days = month_length(date.year, date.month - 1);
         return Date {
             year: date.year,
             month: date.month - 1,

@@ -1,6 +1,6 @@
 // Leap years, the lengths of months, and the days that there are.
 ghost use mathlib.Core.Path.{_≡_};
-ghost use Rattle.ion.specs.Calendar.{isLeap, daysInMonth, isDate};
+ghost use Rattle.ion.specs.Calendar.{isLeap, monthLength, daysInMonth, isDate};
 use ion::Date;
 
 pub fn is_leap(year: u32) -> bool
@@ -18,13 +18,10 @@ pub fn is_leap(year: u32) -> bool
 // By month, 1 being January: the days in a year that is no leap year.
 const MONTH_LENGTHS: [u8; 13] = [0, 31, 28, 31, 30, 31, 30, 31, 31, 30, 31, 30, 31];
 
-// The month's length; 0 for a month outside 1 to 12 or a year above 10000.
-pub fn days_in_month(year: u32, month: u32) -> u32
-    ensures { λ r. ⌜ r ≡ daysInMonth year month ⌝ }
+// The month's length; 0 for a month outside 1 to 12.
+pub(crate) fn month_length(year: u32, month: u32) -> u32
+    ensures { λ r. ⌜ r ≡ monthLength year month ⌝ }
 {
-    if year > 10000 {
-        return 0;
-    }
     if month > 12 {
         return 0;
     }
@@ -37,18 +34,27 @@ pub fn days_in_month(year: u32, month: u32) -> u32
     28
 }
 
-// Whether there is such a day in a year up to 10000. Every month has 28 days: up to there the year's length is not asked.
+// What a date picker is told: the same, but 0 for a year above 10000.
+pub fn days_in_month(year: u32, month: u32) -> u32
+    ensures { λ r. ⌜ r ≡ daysInMonth year month ⌝ }
+{
+    if year > 10000 {
+        return 0;
+    }
+    month_length(year, month)
+}
+
+// Whether there is such a day. Every month has 28 days: up to there the month's length is not asked.
 pub fn is_date(date: Date) -> bool
     ensures { λ r. ⌜ r ≡ isDate date ⌝ }
 {
-    let year = date.year;
     let month = date.month;
     let day = date.day;
     if day < 1 {
         return false;
     }
     if day <= 28 {
-        return (year <= 10000) & (1 <= month) & (month <= 12);
+        return (1 <= month) & (month <= 12);
     }
-    day <= days_in_month(year, month)
+    day <= month_length(date.year, month)
 }

@@ -52,13 +52,13 @@ pub record IsDate (t : Date) : Type 0 where
   pub first : 1 ≤ t .day
   pub last : t .day ≤ monthLength (t .year) (t .month)
 
+-- whether there is such a day
+abbrev pub isDate : Date → Bool
+isDate t = leb 1 (t .day) && leb (t .day) (monthLength (t .year) (t .month))
+
 -- the order of dates: by year, then month, then day
 abbrev pub Earlier : Date → Date → Type 0
 Earlier s t = (s .year < t .year) ⊎ ((s .year ≡ t .year) × ((s .month < t .month) ⊎ ((s .month ≡ t .month) × (s .day < t .day))))
-
--- what the date picker is told: 0 for a year above 10000 too
-abbrev pub daysInMonth : ℕ → ℕ → ℕ
-daysInMonth y m = cond (ltb 10000 y) 0 (monthLength y m)
 
 -- the day after, and the day before; before 0000-01-01 the year stays 0
 abbrev pub nextDay : Date → Date
@@ -72,6 +72,6 @@ prevDay t =
     (cond (ltb 1 (t .month)) (record { year = t .year; month = t .month - 1; day = monthLength (t .year) (t .month - 1) })
     (record { year = t .year - 1; month = 12; day = 31 }))
 
--- whether there is such a day, in a year up to 10000
-abbrev pub isDate : Date → Bool
-isDate t = leb 1 (t .day) && leb (t .day) (daysInMonth (t .year) (t .month))
+-- what the date picker is told: 0 for a year above 10000 too
+abbrev pub daysInMonth : ℕ → ℕ → ℕ
+daysInMonth y m = cond (ltb 10000 y) 0 (monthLength y m)

@@ -163,7 +163,7 @@ unfolding numberOf
 all-number {f} {a} v =
     let b = allOf f a in
     let y : not (isYear (f .year)) ≡ false = ap not (is-year (f .year) (v .from-year) (v .to-year)) in
-    let d : not (isDay b) ≡ false = ap not (date-is (dateIn f) (omega (arith, v .to-year)) (v .date)) in
+    let d : not (isDay b) ≡ false = ap not (date-is (dateIn f) (v .date)) in
     ap (λ (l : List (Bool × ℕ)). firstOf (ranges b ++ l)) (offset-local b (offsetOf (f .offset)) .0)
     ∙ pass-zero (ranges b ++ localChecks b) (pass-append (ranges b) (localChecks b) (bounds-pass b (all-bounds v)) (y, (d, tt)))
 

@@ -3,7 +3,6 @@
 use mathlib.Core.Path.{_≡_}
 use mathlib.Core.Bool.{Bool, false, _&&_, _||_}
 use Prim.Native.Nat.{ℕ, _%_, _^_, _≤_, _<_}
-use native.Mathlib.Omega.{arith}
 use lib.Dec.{eqb, leb, ltb}
 use borrow.Author.Tests.{eqb-true, eq-eqb, ne-eqb}
 use Rattle.ion.specs.Calendar.{isDate, IsDate}
@@ -16,7 +15,7 @@ use Rattle.ion.specs.declared.Date.{Date}
 use Rattle.ion.specs.declared.Fields.{Fields}
 use Rattle.ion.specs.declared.Timestamp.{Timestamp}
 use Rattle.calendar.proofs.Dates.{is-date, date-is}
-use Rattle.timestamp.proofs.Decides.{Decides, le-decides, lt-decides, eq-decides, then-decides, _and_, below-decides}
+use Rattle.timestamp.proofs.Decides.{Decides, le-decides, lt-decides, eq-decides, _and_, below-decides}
 use Rattle.timestamp.proofs.Accepts.{check-gives, check-zero}
 
 -- ---- the fields
@@ -68,8 +67,8 @@ first-decides f =
     and below-decides 3 p (eq-decides (f .hour) 0 and eq-decides (f .minute) 0 and eq-decides (f .offset .0) 0)
     and below-decides 4 p (eq-decides (f .second) 0 and eq-decides (f .digits) 0)
 
-date-decides : (t : Date) → t .year ≤ 9999 → Decides (isDate t) (IsDate t)
-date-decides t y = (is-date t (omega arith), date-is t (omega arith))
+date-decides : (t : Date) → Decides (isDate t) (IsDate t)
+date-decides t = (is-date t, date-is t)
 
 abbrev All : Fields → ℕ → Type 0
 All f a = (((Bounds f × First f) × (a < 10 ^ 18)) × IsDate (dateIn f)) × (a % scale (f .digits) ≡ 0)
@@ -106,8 +105,7 @@ valid-all f a v =
 pub valid-decides : (f : Fields) (a : ℕ) → Decides (validTest f a) (Valid f a)
 valid-decides f a =
     let head = bounds-decides f and first-decides f and lt-decides a (10 ^ 18) in
-    let dated = then-decides head (λ p. date-decides (dateIn f) (p .0 .0 .0 .0 .0 .0 .0 .0 .1)) in
-    let all = dated and eq-decides (a % scale (f .digits)) 0 in
+    let all = head and date-decides (dateIn f) and eq-decides (a % scale (f .digits)) 0 in
     (λ t. all-valid f a (all .0 t), λ v. all .1 (valid-all f a v))
 
 -- ---- the check

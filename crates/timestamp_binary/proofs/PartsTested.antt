@@ -1,18 +1,16 @@
 -- The reader's tests of a body's parts, one after the other, decide whether its UTC fields are in bounds. Assumes nothing.
 use mathlib.Core.Path.{_≡_, refl}
-use mathlib.Core.Bool.{Bool, true, _&&_, and-eq-true-iff}
+use mathlib.Core.Bool.{Bool, true, _&&_}
 use Prim.Native.Nat.{ℕ, _^_, _≤_, _<_, min}
 use native.Mathlib.Decide.{decLe}
 use native.Mathlib.Omega.{arith}
 use borrow.Author.Tests.{leb-true, le-leb}
 use lib.Dec.{leb, ltb}
-use Rattle.ion.specs.Calendar.{IsDate, isDate, daysInMonth}
+use Rattle.ion.specs.Calendar.{IsDate, isDate}
 use Rattle.ion.specs.Accepted.{dateIn}
-use Rattle.ion.specs.declared.Date.{Date}
 use Rattle.ion.specs.declared.Body.{Body}
 use Rattle.ion.specs.declared.offset.Offset.{Offset}
 use Rattle.ion.specs.declared.offset.Offset.the-variants.{Unknown, Known}
-use Rattle.calendar.proofs.Months.{picker-none}
 use Rattle.calendar.proofs.Dates.{is-date, date-is}
 use Rattle.timestamp.proofs.Decides.{Decides, le-decides, lt-decides, then-decides, _and_}
 use Rattle.timestamp_binary.specs.PartsRead.{UtcInBounds, offsetFits}
@@ -21,7 +19,8 @@ use Rattle.timestamp_binary.specs.PartsRead.{UtcInBounds, offsetFits}
 
 abbrev pub boundsTest : Body → Bool
 boundsTest x =
-    leb (x .utc .hour) 23 && leb (x .utc .minute) 59 && leb (x .utc .second) 59 && leb (x .utc .digits) 18 && offsetFits (x .utc .precision) (x .offset)
+    leb (x .utc .year) 10000 && leb (x .utc .hour) 23 && leb (x .utc .minute) 59 && leb (x .utc .second) 59 && leb (x .utc .digits) 18
+    && offsetFits (x .utc .precision) (x .offset)
 
 abbrev pub partsTest : Body → Bool
 partsTest x = boundsTest x && ltb (x .coefficient) (10 ^ min (x .utc .digits) 18) && isDate (dateIn (x .utc))
@@ -39,35 +38,31 @@ offset-decides p (Known m) = (λ t h. absurd (omega (arith, leb-true 3 p t)), λ
 coefficient-decides : (c d : ℕ) → d ≤ 18 → Decides (ltb c (10 ^ min d 18)) (c < 10 ^ d)
 coefficient-decides c d h = let e : min d 18 ≡ d = omega arith in rw e (lt-decides c (10 ^ d))
 
-date-decides : (t : Date) → Decides (isDate t) ((t .year ≤ 10000) × IsDate t)
-date-decides t = (λ e. go e (decLe (t .year) 10000), λ q. date-is t (q .0) (q .1))
-  where
-    go : isDate t ≡ true → Dec (t .year ≤ 10000) → (t .year ≤ 10000) × IsDate t
-    go e (yes h) = (h, is-date t h e)
-    go e (no h) =
-        let b = and-eq-true-iff (leb 1 (t .day)) (leb (t .day) (daysInMonth (t .year) (t .month))) .0 e in
-        absurd (omega (arith, leb-true 1 (t .day) (b .0), leb-true (t .day) (daysInMonth (t .year) (t .month)) (b .1), picker-none (t .year) (t .month) (omega arith)))
-
 -- ---- together
 
 abbrev All : Body → Type 0
 All x =
-    (((((((x .utc .hour ≤ 23) × (x .utc .minute ≤ 59)) × (x .utc .second ≤ 59)) × (x .utc .digits ≤ 18)) × (x .utc .precision < 3 → x .offset ≡ Unknown))
+    (((((((x .utc .year ≤ 10000) × (x .utc .hour ≤ 23)) × (x .utc .minute ≤ 59)) × (x .utc .second ≤ 59)) × (x .utc .digits ≤ 18))
+    × (x .utc .precision < 3 → x .offset ≡ Unknown))
     × (x .coefficient < 10 ^ x .utc .digits))
-    × ((x .utc .year ≤ 10000) × IsDate (dateIn (x .utc))))
+    × IsDate (dateIn (x .utc))
 
 all-decides : (x : Body) → Decides (partsTest x) (All x)
 all-decides x =
     let u = x .utc in
-    let bounds = le-decides (u .hour) 23 and le-decides (u .minute) 59 and le-decides (u .second) 59 and le-decides (u .digits) 18 and offset-decides (u .precision) (x .offset) in
-    then-decides bounds (λ p. coefficient-decides (x .coefficient) (u .digits) (p .0 .1)) and date-decides (dateIn u)
+    let time = le-decides (u .year) 10000 and le-decides (u .hour) 23 and le-decides (u .minute) 59 and le-decides (u .second) 59 in
+    let bounds = time and le-decides (u .digits) 18 and offset-decides (u .precision) (x .offset) in
+    let date : Decides (isDate (dateIn u)) (IsDate (dateIn u)) = (is-date (dateIn u), date-is (dateIn u)) in
+    then-decides bounds (λ p. coefficient-decides (x .coefficient) (u .digits) (p .0 .1)) and date
 
 bounds-all : (x : Body) → UtcInBounds x → All x
 bounds-all x v =
-    ((((((omega (arith, v .time .hours), omega (arith, v .time .minutes)), v .second), v .digits), v .known-late), v .coefficient), (v .year, v .time .date))
+    let h : x .utc .hour ≤ 23 = omega (arith, v .time .hours) in
+    let m : x .utc .minute ≤ 59 = omega (arith, v .time .minutes) in
+    (((((((v .year, h), m), v .second), v .digits), v .known-late), v .coefficient), v .time .date)
 
 all-bounds : (x : Body) → All x → UtcInBounds x
-all-bounds x ((((((h, m), s), n), o), c), (y, d)) =
+all-bounds x (((((((y, h), m), s), n), o), c), d) =
     record { time = record { date = d; hours = omega arith; minutes = omega arith }; year = y; second = s; digits = n; coefficient = c; known-late = o }
 
 pub parts-decides : (x : Body) → Decides (partsTest x) (UtcInBounds x)

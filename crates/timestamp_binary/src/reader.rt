@@ -52,7 +52,11 @@ fn utc_in_bounds(x: Body) -> bool
 {
     let u = x.utc;
     let o = x.offset;
-    let bounds = (u.hour <= 23) & (u.minute <= 59) & (u.second <= 59) & (u.digits <= 18);
+    let bounds = (u.year <= 10000)
+        & (u.hour <= 23)
+        & (u.minute <= 59)
+        & (u.second <= 59)
+        & (u.digits <= 18);
     if !(bounds & offset_fits(u.precision, o)) {
         return false;
     }

@@ -4,27 +4,26 @@ use native.Mathlib.Omega.{arith}
 use borrow.Author.Needs.{needs}
 use borrow.Author.Tests.{lt-ltb, le-ltb}
 use Rattle.ion.specs.Calendar.{monthLength}
-use Rattle.calendar.proofs.Months.{picker-length}
 use Rattle.calendar.proofs.day.next_day.Statement.{statement}
 use Rattle.calendar.proofs.day.next_day.Tie as tie
 
 returns : tie.Need-returns
 returns c =
     let t = c .before .before .before .before .args .date in
-    let h : t .day < monthLength (t .year) (t .month) = omega (arith, picker-length (t .year) (t .month) (omega arith)) in
+    let h : t .day < monthLength (t .year) (t .month) = omega arith in
     simp (lt-ltb _ _ h)
 
 returns-2 : tie.Need-returns-2
 returns-2 c =
     let t = c .before .before .before .before .before .before .args .date in
-    let h : monthLength (t .year) (t .month) ≤ t .day = omega (arith, picker-length (t .year) (t .month) (omega arith)) in
+    let h : monthLength (t .year) (t .month) ≤ t .day = omega arith in
     let k : t .month < 12 = omega arith in
     simp (le-ltb _ _ h, lt-ltb _ _ k)
 
 returns-3 : tie.Need-returns-3
 returns-3 c =
     let t = c .before .before .before .before .before .before .args .date in
-    let h : monthLength (t .year) (t .month) ≤ t .day = omega (arith, picker-length (t .year) (t .month) (omega arith)) in
+    let h : monthLength (t .year) (t .month) ≤ t .day = omega arith in
     let k : 12 ≤ t .month = omega arith in
     simp (le-ltb _ _ h, le-ltb _ _ k)
 

@@ -1,11 +1,9 @@
 -- `calendar::prev_day` meets its contract. Assumes nothing.
 use mathlib.Core.Path.{_≡_}
-use Prim.Native.Nat.{_<_, _≤_, _-_}
+use Prim.Native.Nat.{_<_, _≤_}
 use native.Mathlib.Omega.{arith}
 use borrow.Author.Needs.{needs}
 use borrow.Author.Tests.{lt-ltb, le-ltb}
-use Rattle.ion.specs.Calendar.{monthLength}
-use Rattle.calendar.proofs.Months.{picker-length}
 use Rattle.calendar.proofs.day.prev_day.Statement.{statement}
 use Rattle.calendar.proofs.day.prev_day.Tie as tie
 
@@ -17,8 +15,7 @@ returns-2 c =
     let t = c .before .before .before .before .before .before .before .args .date in
     let h : t .day ≤ 1 = omega arith in
     let k : 1 < t .month = omega arith in
-    let e : c .before .days-in-month .result ≡ monthLength (t .year) (t .month - 1) = omega (arith, picker-length (t .year) (t .month - 1) (omega arith)) in
-    simp (le-ltb _ _ h, lt-ltb _ _ k, e)
+    simp (le-ltb _ _ h, lt-ltb _ _ k, c .before .month-length .ensures)
 
 returns-3 : tie.Need-returns-3
 returns-3 c =

@@ -21,7 +21,7 @@ returns-3 : tie.Need-returns-3
 returns-3 c =
     let day = c .before .before .before .args .date .day in
     let h : 1 ≤ day = omega arith in
-    simp (le-leb 1 day h) (ap (leb day) (c .days-in-month .ensures))
+    simp (le-leb 1 day h) (ap (leb day) (c .month-length .ensures))
 
 pub is-date-spec : {M : Type 1} → statement M
 is-date-spec = tie.close (tie.spec returns returns-2 (λ c κs. search needs) returns-3)
