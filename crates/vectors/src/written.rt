@@ -56,23 +56,19 @@ fn holds(buf: &[u8], bytes: &[u8]) -> bool {
     true
 }
 
-// Whether the writer answers so, writes the bytes, and leaves the rest of the buffer.
-fn fits(buf: &mut [u8], kind: u8, r: &[u8], number: u32, bytes: &[u8]) -> bool {
-    let w = write(buf, kind, r);
-    (w.number == number) & (w.written == bytes.len()) & holds(buf, bytes)
-}
-
-// Whether the writer finds a part of that size too short, and leaves the buffer.
-fn is_too_short(buf: &mut [u8], size: usize, kind: u8, r: &[u8]) -> bool
-    requires { ⌜ size ≤ length (now buf) ⌝ }
+// Whether the writer, lent `size` bytes of a buffer, answers so, writes the bytes, and leaves the rest of the buffer.
+fn answers(size: usize, kind: u8, r: &[u8], number: u32, bytes: &[u8]) -> bool
+    requires { ⌜ size ≤ 256 ⌝ }
 {
+    let mut buf = room();
     let w = write(&mut buf[..size], kind, r);
-    (w.number == refusal::SHORT_BUFFER) & (w.written == 0) & holds(buf, b"")
+    (w.number == number) & (w.written == bytes.len()) & holds(&buf, bytes)
 }
 
+// Whether the writer answers so in a long buffer, and an accepted one also in a buffer of as many bytes as
+// it writes, but finds a byte less too short.
 fn writes(kind: u8, r: &[u8], number: u32, bytes: &[u8]) -> bool {
-    let mut long = room();
-    if !fits(&mut long, kind, r, number, bytes) {
+    if !answers(256, kind, r, number, bytes) {
         return false;
     }
     if number != 0 {
@@ -85,8 +81,7 @@ fn writes(kind: u8, r: &[u8], number: u32, bytes: &[u8]) -> bool {
     if 256 < n {
         return false;
     }
-    let mut short = room();
-    is_too_short(&mut short, n - 1, kind, r)
+    answers(n, kind, r, 0, bytes) & answers(n - 1, kind, r, refusal::SHORT_BUFFER, b"")
 }
 
 // A text and a value have a number before their bytes.

@@ -70,18 +70,18 @@ fn orders<L: Library>(library: &L, first: Pair, second: Pair) -> Option<Orders> 
     })
 }
 
-/// Whether a writer answers so and leaves the rest of its buffer, and whether it refuses a buffer that is a byte too
-/// short. A call that is not offered does not.
+/// Whether a writer answers so in a long buffer, and an accepted one also in a buffer of as many bytes as it writes, but
+/// finds a byte less too short. A call that is not offered does not.
 fn writes(number: u32, bytes: &[u8], write: impl Fn(&mut [u8]) -> Option<Written>) -> bool {
+    let long = answers(255, number, bytes, &write);
+    let size = bytes.len();
+    long && (number != 0 || answers(size, 0, bytes, &write) && answers(size - 1, SHORT_BUFFER, &[], &write))
+}
+
+/// Whether a writer, lent `size` bytes of a buffer, answers so, writes the bytes, and leaves the rest of the buffer.
+fn answers(size: usize, number: u32, bytes: &[u8], write: impl Fn(&mut [u8]) -> Option<Written>) -> bool {
     let mut buffer = [0xA5; 255];
     let mut left = buffer;
     left[..bytes.len()].copy_from_slice(bytes);
-    let answer = Written { number, written: bytes.len() };
-    let fits = write(&mut buffer) == Some(answer) && buffer == left;
-    if number != 0 {
-        return fits;
-    }
-    let mut short = vec![0xA5; bytes.len() - 1];
-    let refused = Written { number: SHORT_BUFFER, written: 0 };
-    fits && write(&mut short) == Some(refused) && short.iter().all(|byte| *byte == 0xA5)
+    write(&mut buffer[..size]) == Some(Written { number, written: bytes.len() }) && buffer == left
 }
