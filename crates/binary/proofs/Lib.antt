@@ -4,3 +4,4 @@ pub mod VarInts
 pub mod Ints
 pub mod Decimals
 pub mod Stored
+pub mod Numbered

@@ -8,6 +8,7 @@ ghost use lib.ListN.{length};
 ghost use Rattle.places.specs.Places.{plain, places};
 ghost use Rattle.ion.specs.Output.{over, put, wrote, Run};
 ghost use Rattle.ion.specs.Int.{intCount, int, readInt};
+ghost use Rattle.ion.specs.NumberReads.{intAnswer, intOf};
 
 // The number of bytes of `value`, from its leading zeros.
 pub fn encoded_size_of(value: u64) -> usize
@@ -59,6 +60,7 @@ pub fn put_u64(buf: &mut [u8], at: usize, value: u64) -> usize
 // The number whose shortest form is `s`, all of it.
 pub fn read_u64(s: &[u8]) -> IntRead
     ensures { λ r. ⌜ r ≡ readInt (now (s .entry)) ⌝ }
+    ensures { λ r. ⌜ intAnswer (length (now (s .entry))) r ≡ intOf (now (s .entry)) ⌝ }
 {
     if 9 < s.len() {
         return IntRead::Bad;

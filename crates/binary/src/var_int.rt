@@ -10,6 +10,7 @@ ghost use lib.IntN.{natAbs};
 ghost use lib.ListN.{length, drop};
 ghost use Rattle.ion.specs.Output.{over, put, wrote, Run};
 ghost use Rattle.ion.specs.VarInt.{isNegative, signedCount, signed, varint, readVarInt};
+ghost use Rattle.ion.specs.NumberReads.{varIntAnswer, varIntOf};
 
 // A number by its sign and its size: negative zero is one of its own.
 pub struct Parts {
@@ -106,6 +107,7 @@ pub fn put_i64(buf: &mut [u8], at: usize, value: i64) -> usize
 // Reads the VarInt at index `at`, in its shortest form and of a magnitude not above `limit`.
 pub fn read_i64(s: &[u8], at: usize, limit: u64) -> VarIntRead
     ensures { λ r. ⌜ r ≡ readVarInt limit (drop at (now (s .entry))) ⌝ }
+    ensures { λ r. ⌜ varIntAnswer r ≡ varIntOf limit (drop at (now (s .entry))) ⌝ }
 {
     if s.len() <= at {
         return VarIntRead::Cut;

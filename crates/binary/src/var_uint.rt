@@ -6,6 +6,7 @@ ghost use Prim.Native.Nat.{_+_, _-_, _*_, _%_, _^_, _≤_, _<_};
 ghost use lib.ListN.{length, drop};
 ghost use Rattle.ion.specs.Output.{over, put, wrote, Run};
 ghost use Rattle.ion.specs.VarUInt.{groups, groupCount, varuint, upTo, scanFrom, zeroFirst, readVarUInt};
+ghost use Rattle.ion.specs.NumberReads.{varUIntAnswer, varUIntOf};
 
 // The number of bytes of `value` as a VarUInt, from its leading zeros.
 pub fn encoded_size_of(value: u64) -> usize
@@ -122,6 +123,7 @@ fn zero_first(s: &[u8], at: usize) -> bool
 // Reads the VarUInt at index `at`, in its shortest form and not above `limit`.
 pub fn read_u64(s: &[u8], at: usize, limit: u64) -> VarUIntRead
     ensures { λ r. ⌜ r ≡ readVarUInt limit (drop at (now (s .entry))) ⌝ }
+    ensures { λ r. ⌜ varUIntAnswer r ≡ varUIntOf limit (drop at (now (s .entry))) ⌝ }
 {
     if zero_first(s, at) {
         return VarUIntRead::Bad;

@@ -5,6 +5,7 @@ pub mod Output
 pub mod VarUInt
 pub mod VarInt
 pub mod Int
+pub mod NumberReads
 pub mod Decimal
 pub mod Padded
 pub mod Calendar

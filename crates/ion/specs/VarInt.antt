@@ -1,5 +1,5 @@
--- VarInt of Ion binary: the groups of a magnitude, as a VarUInt has them, with the sign in bit 64 of the first byte, which so
--- holds six bits of the magnitude. Assumes nothing.
+-- VarInt of Ion binary: the groups of a magnitude, as a VarUInt has them, with the sign in bit 40 hexadecimal of the first byte,
+-- which so holds six bits of the magnitude. Assumes nothing.
 use Prim.Native.Nat.{ℕ, _+_, _*_, _/_, _%_}
 use mathlib.Core.Bool.{Bool, true, false, cond}
 use mathlib.Core.List.{List, [], _∷_}

@@ -11,6 +11,8 @@ use lib.Seq.{drop-cons}
 use Rattle.places.specs.Places.{plain, valueFrom}
 use Rattle.places.proofs.Values.{value-above}
 use Rattle.ion.specs.Int.{intCount, bigEndian}
+use Rattle.ion.specs.NumberReads.{intAnswer}
+use Rattle.binary.proofs.Numbered.{numbered}
 use Rattle.binary.proofs.Ints.{read-shortest, read-longer, read-above, read-long}
 use Rattle.binary.proofs.int.read_u64.Statement.{statement}
 use Rattle.binary.proofs.int.read_u64.Tie as tie
@@ -39,7 +41,7 @@ whole c =
     l .inv .2 ∙ ap (valueFrom 256 plain (l .v)) (drop-of-length-le (c .before .before .before .before .args .s .now) (c .loop-test .left))
 
 returns : tie.Need-returns Inv-loop μ-loop
-returns c = sym (read-long (c .before .before .args .s .now) (c .if1 .taken))
+returns c = numbered (intAnswer _) (sym (read-long (c .before .before .args .s .now) (c .if1 .taken)))
 
 loop-holds : tie.Need-loop-holds Inv-loop μ-loop
 loop-holds c = (omega arith, omega arith, refl)
@@ -49,7 +51,8 @@ returns-2 c =
     let t = c .before in
     let s = t .before .before .before .before .args .s .now in
     let l = t .before .loop in
-    sym (read-above s (omega (arith, turn t, value-above 256 (lit< tt) (l .v * 256 + getD s (l .i) 0) (drop (suc (l .i)) s))))
+    numbered (intAnswer _)
+    (sym (read-above s (omega (arith, turn t, value-above 256 (lit< tt) (l .v * 256 + getD s (l .i) 0) (drop (suc (l .i)) s)))))
 
 mul-v : tie.Need-mul-v Inv-loop μ-loop
 mul-v c = search needs
@@ -81,13 +84,15 @@ returns-3 : tie.Need-returns-3 Inv-loop μ-loop
 returns-3 c =
     let e = c .before in
     let l = e .before in
-    sym (read-longer (l .before .before .before .before .args .s .now) (λ n. c .if3 .taken (e .encoded-size-of .ensures ∙ ap intCount (sym (whole l)) ∙ n)))
+    let s = l .before .before .before .before .args .s .now in
+    numbered (intAnswer _) (sym (read-longer s (λ n. c .if3 .taken (e .encoded-size-of .ensures ∙ ap intCount (sym (whole l)) ∙ n))))
 
 returns-4 : tie.Need-returns-4 Inv-loop μ-loop
 returns-4 c =
     let e = c .before in
     let l = e .before in
-    sym (read-shortest (l .before .before .before .before .args .s .now) _ (whole l) (l .before .loop .inv .0) (sym (e .encoded-size-of .ensures) ∙ c .if3 .left))
+    let s = l .before .before .before .before .args .s .now in
+    numbered (intAnswer _) (sym (read-shortest s _ (whole l) (l .before .loop .inv .0) (sym (e .encoded-size-of .ensures) ∙ c .if3 .left)))
 
 pub read-u64-spec : {M : Type 1} → statement M
 read-u64-spec =

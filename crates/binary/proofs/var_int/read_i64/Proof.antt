@@ -12,7 +12,9 @@ use lib.ListN.{drop, getD, drop-of-length-le}
 use lib.Seq.{drop-cons}
 use Rattle.ion.specs.VarUInt.{scanFrom}
 use Rattle.ion.specs.VarInt.{ifShortest, readVarInt}
+use Rattle.ion.specs.NumberReads.{varIntAnswer}
 use Rattle.ion.specs.declared.VarIntRead.the-variants.{Value, Bad}
+use Rattle.binary.proofs.Numbered.{numbered}
 use Rattle.binary.proofs.VarInts.{read-none, read-alone, read-first, signed-u64}
 use Rattle.binary.proofs.var_int.read_i64.Statement.{statement}
 use Rattle.binary.proofs.var_int.read_i64.Tie as tie
@@ -20,7 +22,7 @@ use Rattle.binary.proofs.var_int.read_i64.Tie as tie
 returns : tie.Need-returns
 returns c =
     let a = c .before .before .args in
-    sym (ap (readVarInt (a .limit)) (drop-of-length-le (a .s .now) (c .if1 .taken)) ∙ read-none (a .limit))
+    numbered varIntAnswer (sym (ap (readVarInt (a .limit)) (drop-of-length-le (a .s .now) (c .if1 .taken)) ∙ read-none (a .limit)))
 
 -- the byte at the index comes first
 begins : (c : tie.Else1) →
@@ -61,10 +63,10 @@ cast-first : tie.Need-cast-first
 cast-first c = search needs
 
 returns-2 : tie.Need-returns-2
-returns-2 c = sym (alone (c .before) ∙ rw (lt-ltb _ _ (c .if3 .taken)))
+returns-2 c = numbered varIntAnswer (sym (alone (c .before) ∙ rw (lt-ltb _ _ (c .if3 .taken))))
 
 returns-3 : tie.Need-returns-3
-returns-3 c = sym (alone (c .before) ∙ rw (le-ltb _ _ (c .if3 .left)))
+returns-3 c = numbered varIntAnswer (sym (alone (c .before) ∙ rw (le-ltb _ _ (c .if3 .left))))
 
 add-read-groups : tie.Need-add-read-groups
 add-read-groups c = search needs
@@ -92,18 +94,22 @@ enum-told-2 c = search needs
 returns-4 : tie.Need-returns-4
 returns-4 c =
     let k = c .before .before .before in
-    sym (whole (k .before .before) ∙ ap (ifShortest _) (k .m .given .1) ∙ rw (eq-eqb _ _ (sym (c .before .encoded-size-of2 .ensures) ∙ c .if4 .taken)))
+    numbered varIntAnswer
+    (sym (whole (k .before .before) ∙ ap (ifShortest _) (k .m .given .1)
+    ∙ rw (eq-eqb _ _ (sym (c .before .encoded-size-of2 .ensures) ∙ c .if4 .taken))))
 
 returns-5 : tie.Need-returns-5
 returns-5 c =
     let k = c .before .before .before in
-    sym (whole (k .before .before) ∙ ap (ifShortest _) (k .m .given .1) ∙ rw (ne-eqb _ _ (λ e. c .if4 .left (c .before .encoded-size-of2 .ensures ∙ e))))
+    numbered varIntAnswer
+    (sym (whole (k .before .before) ∙ ap (ifShortest _) (k .m .given .1)
+    ∙ rw (ne-eqb _ _ (λ e. c .if4 .left (c .before .encoded-size-of2 .ensures ∙ e)))))
 
 returns-6 : tie.Need-returns-6
-returns-6 c = sym (whole (c .before .before) ∙ ap (ifShortest _) (c .enum-told .given .1))
+returns-6 c = numbered varIntAnswer (sym (whole (c .before .before) ∙ ap (ifShortest _) (c .enum-told .given .1)))
 
 returns-7 : tie.Need-returns-7
-returns-7 c = sym (whole (c .before .before) ∙ ap (ifShortest _) (c .enum-told2 .given .1))
+returns-7 c = numbered varIntAnswer (sym (whole (c .before .before) ∙ ap (ifShortest _) (c .enum-told2 .given .1)))
 
 pub read-i64-spec : {M : Type 1} → statement M
 read-i64-spec =

@@ -6,6 +6,8 @@ use native.Mathlib.Omega.{arith}
 use lib.Dec.{lit<}
 use lib.ListN.{drop}
 use Rattle.ion.specs.VarUInt.{scanFrom}
+use Rattle.ion.specs.NumberReads.{varUIntAnswer}
+use Rattle.binary.proofs.Numbered.{numbered}
 use Rattle.binary.proofs.VarUInts.{count-u64, read-padded, read-scanned}
 use Rattle.binary.proofs.var_uint.read_u64.Statement.{statement}
 use Rattle.binary.proofs.var_uint.read_u64.Tie as tie
@@ -14,7 +16,7 @@ zero-first-requires : tie.Need-zero-first-requires
 zero-first-requires c κs = search needs
 
 returns : tie.Need-returns
-returns c = sym (read-padded _ _ (sym (c .before .zero-first .ensures) ∙ c .if1 .taken))
+returns c = numbered varUIntAnswer (sym (read-padded _ _ (sym (c .before .zero-first .ensures) ∙ c .if1 .taken)))
 
 encoded-size-of-requires : tie.Need-encoded-size-of-requires
 encoded-size-of-requires c κs = search needs
@@ -30,9 +32,10 @@ returns-2 c =
     let f = e .before in
     let a = f .before .before .before .args in
     let n : e .encoded-size-of .result - 0 ≡ e .encoded-size-of .result = omega arith in
-    c .read-groups .ensures
+    numbered varUIntAnswer
+    (c .read-groups .ensures
     ∙ ap (λ (k : ℕ). scanFrom (a .limit) k 0 0 (drop (a .at) (a .s .now))) (n ∙ e .encoded-size-of .ensures)
-    ∙ sym (read-scanned (a .limit) (drop (a .at) (a .s .now)) (sym (f .before .zero-first .ensures) ∙ f .if1 .left))
+    ∙ sym (read-scanned (a .limit) (drop (a .at) (a .s .now)) (sym (f .before .zero-first .ensures) ∙ f .if1 .left)))
 
 pub read-u64-spec : {M : Type 1} → statement M
 read-u64-spec =

@@ -15,12 +15,12 @@ signed-offset-requires c κs =
     let r = n .before .before in
     let b = r .before in
     let g = b .shared-slice-known .given in
-    read-signed-is 1439 (b .before .args .s .now) _ _ _ (λ i. g i .fits) (sym (r .read-i64 .ensures) ∙ n .negative .given .1) .0
+    read-signed-is 1439 (b .before .args .s .now) _ _ _ (λ i. g i .fits) (sym (r .read-i64 .ensures .0) ∙ n .negative .given .1) .0
 
 -- what the offset makes of the bytes
 whole : (c : tie.After-read-i64) → let s = c .before .before .args .s .now in decodeBody s ≡ fromOffset (offsetFrom s (c .read-i64 .result))
 unfolding decodeBody decodeOffset
-whole c = let s = c .before .before .args .s .now in ap (λ (x : VarIntRead). fromOffset (offsetFrom s x)) (sym (c .read-i64 .ensures))
+whole c = let s = c .before .before .args .s .now in ap (λ (x : VarIntRead). fromOffset (offsetFrom s x)) (sym (c .read-i64 .ensures .0))
 
 returns : tie.Need-returns
 returns c =

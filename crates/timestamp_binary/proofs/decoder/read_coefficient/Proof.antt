@@ -20,13 +20,13 @@ returns c =
     let k = c .before in
     let r = k .before .before in
     let a = r .before .before .before .args in
-    sym (ap (coefficientFrom (a .digits)) (part (a .s .now) (a .at) ∙ sym (r .read-u64 .ensures) ∙ k .c .given .1))
+    sym (ap (coefficientFrom (a .digits)) (part (a .s .now) (a .at) ∙ sym (r .read-u64 .ensures .0) ∙ k .c .given .1))
 
 returns-2 : tie.Need-returns-2
 returns-2 c =
     let r = c .before .before in
     let a = r .before .before .before .args in
-    sym (ap (coefficientFrom (a .digits)) (part (a .s .now) (a .at) ∙ sym (r .read-u64 .ensures) ∙ c .enum-told .given .1))
+    sym (ap (coefficientFrom (a .digits)) (part (a .s .now) (a .at) ∙ sym (r .read-u64 .ensures .0) ∙ c .enum-told .given .1))
 
 pub read-coefficient-spec : {M : Type 1} → statement M
 read-coefficient-spec =

@@ -43,7 +43,7 @@ found c =
     let l = r .before .before .before .loop in
     let b = r .before .before .before .before in
     let s = b .before .args .s .now in
-    let e = sym (r .read-u64 .ensures) ∙ c .v .given .1 in
+    let e = sym (r .read-u64 .ensures .0) ∙ c .v .given .1 in
     let g = b .shared-slice-known .given in
     (read-is 16383 (drop (l .next) s) _ _ (below-drop 256 (l .next) s (λ i. g i .fits)) e .0, omega (arith, read-within 16383 (drop (l .next) s) _ _ e, length-drop (l .next) s, r .before .if1 .left))
 
@@ -61,7 +61,7 @@ loop-again c =
     let s = t .before .before .before .args .s .now in (
       omega arith,
       (length-set (l .values) (l .count) _ ∙ l .inv .1 .0, rest-more (l .values) (l .count) _ (l .inv .1)),
-      l .inv .2 ∙ field-more s (l .values) (l .count) (l .next) _ _ (t .loop-test .taken) (r .before .if1 .left) (l .inv .1 .0) (sym (r .read-u64 .ensures) ∙ c .before .v .given .1),
+      l .inv .2 ∙ field-more s (l .values) (l .count) (l .next) _ _ (t .loop-test .taken) (r .before .if1 .left) (l .inv .1 .0) (sym (r .read-u64 .ensures .0) ∙ c .before .v .given .1),
     )
 
 -- something that is no field makes nothing of all
@@ -72,7 +72,7 @@ none c g e f =
     let t = c .before .before in
     let l = t .before .loop in
     let s = t .before .before .before .args .s .now in
-    l .inv .2 ∙ ap (joined (take (l .count) (l .values))) (field-none s (l .count) (l .next) g (t .loop-test .taken) (c .before .if1 .left) (sym (c .read-u64 .ensures) ∙ e) f)
+    l .inv .2 ∙ ap (joined (take (l .count) (l .values))) (field-none s (l .count) (l .next) g (t .loop-test .taken) (c .before .if1 .left) (sym (c .read-u64 .ensures .0) ∙ e) f)
 
 returns-2 : tie.Need-returns-2 Inv-loop μ-loop
 returns-2 c = fields-none _ _ _ (none (c .before .before .before) _ (c .before .enum-told .given .1) (λ f u. refl)) (c .no-fields .ensures)

@@ -30,7 +30,7 @@ found c =
     let r = c .before .before in
     let b = r .before .before in
     let a = b .before .args in
-    let e = sym (r .read-i64 .ensures) ∙ c .negative .given .1 in
+    let e = sym (r .read-i64 .ensures .0) ∙ c .negative .given .1 in
     let g = b .shared-slice-known .given in
     let t = drop (a .at) (a .s .now) in
     (read-signed-is 63 t _ _ _ (below-drop 256 (a .at) (a .s .now) (λ i. g i .fits)) e .0, omega (arith, read-signed-within 63 t _ _ _ e, length-drop (a .at) (a .s .now), r .before .if1 .left))
@@ -47,7 +47,7 @@ whole : (c : tie.After-read-i64) →
 whole c =
     let a = c .before .before .before .args in
     some (drop (a .at) (a .s .now)) (omega (arith, length-drop (a .at) (a .s .now), c .before .if1 .left))
-    ∙ ap (fractionFrom (drop (a .at) (a .s .now))) (sym (c .read-i64 .ensures))
+    ∙ ap (fractionFrom (drop (a .at) (a .s .now))) (sym (c .read-i64 .ensures .0))
 
 add-read-coefficient : tie.Need-add-read-coefficient
 add-read-coefficient c = omega (arith, found (c .before .before) .1)

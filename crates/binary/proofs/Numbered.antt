@@ -1,0 +1,39 @@
+-- The answers of the readers of single numbers by the table's numbers: equal answers have equal ones, and these tell the answer.
+-- Assumes nothing.
+use mathlib.Core.Path.{_≡_, refl, sym, ap, _∙_}
+use mathlib.Core.Bool.{Bool, cond}
+use Prim.Native.Nat.{ℕ}
+use lib.Dec.{eqb}
+use Rattle.ion.specs.Refusal.{inputEnds}
+use Rattle.ion.specs.NumberReads.{NumberRead, varUIntAnswer, varIntAnswer, intAnswer}
+use Rattle.ion.specs.declared.VarUIntRead.{VarUIntRead}
+use Rattle.ion.specs.declared.VarUIntRead.the-variants as uint
+use Rattle.ion.specs.declared.VarIntRead.{VarIntRead}
+use Rattle.ion.specs.declared.VarIntRead.the-variants as int
+use Rattle.ion.specs.declared.IntRead.{IntRead}
+use Rattle.ion.specs.declared.IntRead.the-variants as magnitude
+
+-- the answer that has these numbers
+abbrev found : {A : Type 0} → (Bool → ℕ → ℕ → A) → A → A → NumberRead → A
+found value cut bad r = cond (eqb (r .number) 0) (value (r .negative) (r .magnitude) (r .taken)) (cond (eqb (r .number) inputEnds) cut bad)
+
+module _ {A : Type 0} (f : A → NumberRead) where
+  pub numbered : {r x : A} → r ≡ x → (r ≡ x) × (f r ≡ f x)
+  numbered e = (e, ap f e)
+
+  -- where every answer is found again from its numbers, these tell it
+  told : (value : Bool → ℕ → ℕ → A) (cut bad : A) → ((a : A) → found value cut bad (f a) ≡ a) → {a b : A} → f a ≡ f b → a ≡ b
+  told value cut bad back {a} {b} e = sym (back a) ∙ ap (found value cut bad) e ∙ back b
+
+pub varuint-told : {a b : VarUIntRead} → varUIntAnswer a ≡ varUIntAnswer b → a ≡ b
+varuint-told =
+    told varUIntAnswer (λ g m n. uint.Value m n) uint.Cut uint.Bad
+    (λ a. elim a [ uint.Value v n ↦ refl | uint.Cut ↦ refl | uint.Bad ↦ refl ])
+
+pub varint-told : {a b : VarIntRead} → varIntAnswer a ≡ varIntAnswer b → a ≡ b
+varint-told = told varIntAnswer int.Value int.Cut int.Bad (λ a. elim a [ int.Value g m n ↦ refl | int.Cut ↦ refl | int.Bad ↦ refl ])
+
+pub int-told : (n : ℕ) {a b : IntRead} → intAnswer n a ≡ intAnswer n b → a ≡ b
+int-told n =
+    told (intAnswer n) (λ g m k. magnitude.Value m) magnitude.Bad magnitude.Bad
+    (λ a. elim a [ magnitude.Value v ↦ refl | magnitude.Bad ↦ refl ])
