@@ -205,7 +205,7 @@ pub struct DateTime {
     pub minute: u32,
 }
 
-/// A library that answers with document 01's numbers. A call that answers `None` is not offered, and is not compared.
+/// A library that answers with the scope's numbers. A call that answers `None` is not offered, and is not compared.
 pub trait Library {
     fn name(&self) -> &'static str;
 

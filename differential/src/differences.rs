@@ -1,4 +1,4 @@
-//! The differences between document 01 and the Rust that a run meets. Each is a line of docs/DIFFERENCES.md. Any other
+//! The differences between the scope and the Rust that a run meets. Each is a line of docs/DIFFERENCES.md. Any other
 //! difference fails the run.
 
 use crate::calls::{Build, Pair, Stage};
@@ -21,7 +21,7 @@ pub const ALL: [(Listed, &str); 2] = [
     ),
 ];
 
-/// What document 01 reads a field set as in which the largest number is counted from 0: the same counted from 1.
+/// What the scope reads a field set as in which the largest number is counted from 0: the same counted from 1.
 pub fn largest_from_zero(build: &Build) -> Option<Build> {
     let month = build.month0 && build.month == u32::MAX && build.stage >= Stage::Month;
     let day = build.day0 && build.day == u32::MAX && build.stage >= Stage::Day;

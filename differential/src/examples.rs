@@ -1,20 +1,20 @@
-//! Examples that do not come from the Rust: document 01's own, the Ion specification's, and one worked by hand from
-//! document 01's rules.
+//! Examples that do not come from the Rust: the scope's own, the Ion specification's, and one worked by hand from
+//! the scope's rules.
 
 use crate::calls::{Build, Fraction, Offset, Stage};
 
 /// Where an example stands.
 #[derive(Clone, Copy, PartialEq, Eq, Debug)]
 pub enum Source {
-    /// Document 01, "Stamps at the edges", P1 to P12.
+    /// docs/SCOPE.md, P1 to P12.
     Numbered,
-    /// Document 01: the others of that section, and sentences with a number of their own.
+    /// docs/SCOPE.md: the others of that section, and sentences with a number of their own.
     Others,
     /// The Ion 1.0 specification, section "Timestamp": texts, and which of them are one instant.
     IonText,
     /// The Ion 1.0 binary encoding, section "6: Timestamp": values of 2000-01-01T00:00:00, with and without a fraction.
     IonBinary,
-    /// Worked by hand from document 01's rule of value bytes: an unknown offset is C0; the year 2000 is 15 * 128 + 80, so
+    /// Worked by hand from the scope's rule of value bytes: an unknown offset is C0; the year 2000 is 15 * 128 + 80, so
     /// 0F D0.
     ByHand,
 }
@@ -24,11 +24,11 @@ impl Source {
 
     pub fn name(self) -> &'static str {
         match self {
-            Source::Numbered => "document 01, P1 to P12",
-            Source::Others => "document 01, other examples",
+            Source::Numbered => "docs/SCOPE.md, P1 to P12",
+            Source::Others => "docs/SCOPE.md, other examples",
             Source::IonText => "Ion 1.0 specification, Timestamp",
             Source::IonBinary => "Ion 1.0 binary encoding, 6: Timestamp",
-            Source::ByHand => "worked by hand from document 01",
+            Source::ByHand => "worked by hand from docs/SCOPE.md",
         }
     }
 }
@@ -228,9 +228,9 @@ pub const ORDERS: [Order; 6] = [
     },
 ];
 
-/// Document 01's stop after P3 and P4, and values that the Ion 1.0 binary encoding has as equivalents of
+/// The scope's stop after P3 and P4, and values that the Ion 1.0 binary encoding has as equivalents of
 /// 2000-01-01T00:00:00+00:00 without a fraction, and the writer does not write: an exponent 0 alone, one with a
-/// coefficient 00, a negative zero exponent, an exponent 1. Document 01's reader takes only the shortest form.
+/// coefficient 00, a negative zero exponent, an exponent 1. The scope's reader takes only the shortest form.
 pub const UNREAD: [Unread; 5] = [
     Unread { source: Others, bytes: &[0x6F], number: 14 },
     Unread { source: IonBinary, bytes: &[0x69, 0x80, 0x0F, 0xD0, 0x81, 0x81, 0x80, 0x80, 0x80, 0x80], number: 15 },

@@ -44,14 +44,14 @@ pub fn bytes(answer: Answer<Vec<u8>>) -> Expected<Result<Vec<u8>, u32>> {
     answered(answer, Ok, Err)
 }
 
-/// The distance by document 01's count; whether there is one is the Rust's to say.
+/// The distance by the scope's count; whether there is one is the Rust's to say.
 pub fn distance(first: Pair, second: Pair) -> Expected<Distance> {
     let accepted = |_| model::distance(first, second);
     let refused = |number| Distance { number, sign: 0, seconds: 0, attoseconds: 0 };
     answered(oracle::cmp(first, second), accepted, refused)
 }
 
-/// The reader by document 01, over the Rust's check and writer.
+/// The reader by the scope, over the Rust's check and writer.
 pub fn read(input: &[u8]) -> Read {
     reader::read(input, |pair| match oracle::body(pair) {
         Answer::Accepted(body) => Some(body),

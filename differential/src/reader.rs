@@ -1,4 +1,4 @@
-//! Document 01's reader of a value. ion-rust's is not at hand, so what a body must be is asked of a writer: a body is
+//! The scope's reader of a value. ion-rust's is not at hand, so what a body must be is asked of a writer: a body is
 //! taken for a pair, and accepted where that pair is accepted and its body is the same again.
 
 use crate::calls::{DateTime, Pair, Read};

@@ -1,4 +1,4 @@
-//! Document 01's refusal numbers, and which of the Rust's error texts stands for which number.
+//! The scope's refusal numbers, and which of the Rust's error texts stands for which number.
 
 pub const FRACTION: u32 = 1;
 pub const YEAR: u32 = 2;

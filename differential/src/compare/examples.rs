@@ -63,7 +63,7 @@ fn two<L: Library>(run: &mut Run<'_, L>, order: &Order) {
     }
 }
 
-/// P1's pair as document 01 has it, and P11, the same with an attosecond.
+/// P1's pair as the scope has it, and P11, the same with an attosecond.
 fn first_pair<L: Library>(run: &mut Run<'_, L>) {
     let first = Pair { word: 0x0004_4200_0000_0000, attoseconds: 0 };
     let built = run.library.build(&Build::year(1));

@@ -1,4 +1,4 @@
-//! Fields, the packed pair, and the checks 1 to 12 in document 01's order.
+//! Fields, the packed pair, and the checks 1 to 12 in the scope's order.
 
 use super::calendar::{is_day, shifted};
 use crate::calls::{Build, Built, DateTime, Fraction, Offset, Pair, Stage};

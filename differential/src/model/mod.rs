@@ -1,4 +1,4 @@
-//! Document 01 in plain Rust, written from its words and not from ion-rust's code. It stands where the proved library
+//! The scope (docs/SCOPE.md) in plain Rust, written from its words and not from ion-rust's code. It stands where the proved library
 //! will: held against the Rust, it shows where the document and the Rust differ. It also gives the answers for which
 //! ion-rust has no code, the distance.
 
@@ -114,7 +114,7 @@ fn read_fields(pair: Pair, fields: &fields::Fields) -> Fields {
 
 impl Library for Model {
     fn name(&self) -> &'static str {
-        "document 01"
+        "the scope"
     }
 
     fn build(&self, build: &Build) -> Built {

@@ -86,7 +86,7 @@ impl Cases for Sample {
             Answer::Accepted(pair) => Some(pair),
             _ => None,
         };
-        // What the Rust answers otherwise than document 01 is no answer to record.
+        // What the Rust answers otherwise than the scope is no answer to record.
         if differences::largest_from_zero(build).is_none() {
             let built = answered(expected::built(answer));
             self.offer(Kind::Build, built.number, || vec![Record::Build(*build, built)]);

@@ -76,7 +76,7 @@ fn integers_as_int_fields() {
     assert_eq!(bytes(-127), [0xFF]);
     assert_eq!(bytes(-128), [0x80, 0x80]);
     assert_eq!(bytes(256), [0x01, 0x00]);
-    // Document 01 has no bytes for a zero; the writers of decimals never pass one.
+    // The scope has no bytes for a zero; the writers of decimals never pass one.
     assert_eq!(bytes(0), [0x00]);
 }
 

@@ -1,4 +1,4 @@
-//! Libraries with one wrong answer each, document 01's six among them: a run must notice every one.
+//! Libraries with one wrong answer each, the scope's six among them: a run must notice every one.
 
 use super::SHORT;
 use crate::calls::*;
