@@ -1,8 +1,8 @@
 -- Order, equality and distance of two timestamps, the first checked before the second. Assumes nothing.
-use Prim.Native.Nat.{ℕ, _+_, _-_, _/_, _%_, _^_}
+use Prim.Native.Nat.{ℕ, _/_, _%_, _^_}
 use mathlib.Core.Bool.{Bool, false, cond}
 use lib.Dec.{eqb, ltb}
-use lib.IntN.{ℤ, pos, negsuc}
+use lib.IntN.{ℤ, pos, negsuc, natAbs, _-ℤ_}
 use Rattle.ion.specs.Pair.{wordIn, samePair}
 use Rattle.ion.specs.Check.{checkOf}
 use Rattle.ion.specs.Count.{countOf}
@@ -47,17 +47,17 @@ ionCmpOf s t =
     let n = numberOfTwo s t in
     record { number = n; order = ifAccepted n (ionOrder s t) (pos 0) }
 
--- the size of the difference of two counts
-abbrev pub gapOf : ℕ → ℕ → ℕ
-gapOf m n = (m - n) + (n - m)
+-- the difference of two counts, without its sign
+abbrev pub sizeOfDifference : ℕ → ℕ → ℕ
+sizeOfDifference m n = natAbs (pos m -ℤ pos n)
 
 unfoldable pub distanceOf : Timestamp → Timestamp → Distance
 distanceOf s t =
     let n = numberOfTwo s t in
-    let gap = gapOf (countOf s) (countOf t) in
+    let size = sizeOfDifference (countOf s) (countOf t) in
     record {
       number = n;
       sign = ifAccepted n (orderOf (countOf s) (countOf t)) (pos 0);
-      seconds = ifAccepted n (gap / 10 ^ 18) 0;
-      attoseconds = ifAccepted n (gap % 10 ^ 18) 0;
+      seconds = ifAccepted n (size / 10 ^ 18) 0;
+      attoseconds = ifAccepted n (size % 10 ^ 18) 0;
     }

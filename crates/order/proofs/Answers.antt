@@ -10,7 +10,7 @@ use Rattle.ion.specs.Pair.{samePair}
 use Rattle.ion.specs.Check.{checkOf}
 use Rattle.ion.specs.Accepted.{Accepted}
 use Rattle.ion.specs.Count.{countOf}
-use Rattle.ion.specs.Order.{numberOfTwo, orderOf, ionOrder, gapOf, cmpOf, eqOf, ionEqOf, ionCmpOf, distanceOf}
+use Rattle.ion.specs.Order.{numberOfTwo, orderOf, ionOrder, sizeOfDifference, cmpOf, eqOf, ionEqOf, ionCmpOf, distanceOf}
 use Rattle.ion.specs.declared.Timestamp.{Timestamp}
 use Rattle.ion.specs.declared.Ordered.{Ordered}
 use Rattle.ion.specs.declared.Compared.{Compared}
@@ -54,13 +54,13 @@ module _ (s t : Timestamp) where
     pub distance-zero : distanceOf s t ≡ distanceOfCounts (countOf s) (countOf t)
     unfolding distanceOf
     distance-zero =
-        let gap = gapOf (countOf s) (countOf t) in
+        let size = sizeOfDifference (countOf s) (countOf t) in
         λ i.
         record {
           number = e i;
           sign = if-zero _ (orderOf (countOf s) (countOf t)) (pos 0) e i;
-          seconds = if-zero _ (gap / 10 ^ 18) 0 e i;
-          attoseconds = if-zero _ (gap % 10 ^ 18) 0 e i;
+          seconds = if-zero _ (size / 10 ^ 18) 0 e i;
+          attoseconds = if-zero _ (size % 10 ^ 18) 0 e i;
         }
 
   -- a number alone, r, as it was answered
@@ -84,11 +84,11 @@ module _ (s t : Timestamp) where
     pub distance-refused : _≡_ {A = Distance} (record { number = r; sign = pos 0; seconds = 0; attoseconds = 0 }) (distanceOf s t)
     unfolding distanceOf
     distance-refused =
-        let gap = gapOf (countOf s) (countOf t) in
+        let size = sizeOfDifference (countOf s) (countOf t) in
         λ i.
         record {
           number = e i;
           sign = if-refused (orderOf (countOf s) (countOf t)) (pos 0) e h i;
-          seconds = if-refused (gap / 10 ^ 18) 0 e h i;
-          attoseconds = if-refused (gap % 10 ^ 18) 0 e h i;
+          seconds = if-refused (size / 10 ^ 18) 0 e h i;
+          attoseconds = if-refused (size % 10 ^ 18) 0 e h i;
         }

@@ -18,7 +18,7 @@ use Rattle.order.specs.Local.{IsLocal, secondsAt, utcSeconds, aheadOf}
 use Rattle.order.specs.Counts.{orderOfPairs}
 use Rattle.order.specs.Answers.{distant, distanceOfCounts}
 use Rattle.order.proofs.Orders.{order-shift, pairs-alike}
-use Rattle.order.proofs.Gaps.{gap-shift, shift-counts, pairs-count}
+use Rattle.order.proofs.Differences.{size-shift, shift-counts, pairs-count}
 
 -- ---- valid fields
 
@@ -83,4 +83,4 @@ module _ (f g : Fields) (p : IsLocal f) (q : IsLocal g) where
     counts-shift = shift-counts (10 ^ 18) (secondsAt f (pos 0)) (secondsAt g (aheadOf f g)) (utcSeconds f) (utcSeconds g) a b same-clock
 
     pub distance-is : distanceOfCounts (secondsAt f (pos 0) * 10 ^ 18 + a) (secondsAt g (aheadOf f g) * 10 ^ 18 + b) ≡ distanceOfCounts (countIn f a) (countIn g b)
-    distance-is = ap₂ distant (order-shift _ _ _ _ counts-shift) (gap-shift _ _ _ _ counts-shift)
+    distance-is = ap₂ distant (order-shift _ _ _ _ counts-shift) (size-shift _ _ _ _ counts-shift)

@@ -6,34 +6,38 @@ use native.Mathlib.Decide.{decLt}
 use native.Mathlib.Omega.{arith}
 use lib.Dec.{lit<}
 use lib.IntN.{ℤ, pos, negsuc, negℤ, _-ℤ_, _*ℤ_}
-use Rattle.integers.proofs.Parts.{sub-parts, mul-parts, parts-eq}
+use Rattle.integers.proofs.Parts.{up, down, sub-parts, mul-parts, parts-eq}
 use Rattle.ion.specs.Accepted.{Accepted}
 use Rattle.ion.specs.Count.{countOf}
-use Rattle.ion.specs.Order.{orderOf, gapOf, cmpOf, distanceOf}
+use Rattle.ion.specs.Order.{orderOf, sizeOfDifference, cmpOf, distanceOf}
 use Rattle.ion.specs.declared.Timestamp.{Timestamp}
 use Rattle.ion.specs.declared.Distance.{Distance}
 use Rattle.order.specs.Answers.{distant}
 use Rattle.order.proofs.Orders.{order-less, order-more, order-same, order-turned}
-use Rattle.order.proofs.Gaps.{gap-sym}
+use Rattle.order.proofs.Differences.{size-cut, size-sym}
 use Rattle.order.proofs.Answers.{both-zero, distance-zero}
 
 -- sign times size is the difference
-signed : (m n : ℕ) → pos m -ℤ pos n ≡ orderOf m n *ℤ pos (gapOf m n)
+signed : (m n : ℕ) → pos m -ℤ pos n ≡ orderOf m n *ℤ pos (sizeOfDifference m n)
 signed m n = go (decLt m n) (decLt n m)
   where
-    times : {z : ℤ} → orderOf m n ≡ z → pos m -ℤ pos n ≡ z *ℤ pos (gapOf m n) → pos m -ℤ pos n ≡ orderOf m n *ℤ pos (gapOf m n)
-    times e d = d ∙ sym (ap (λ (z : ℤ). z *ℤ pos (gapOf m n)) e)
+    size : ℕ
+    size = sizeOfDifference m n
 
-    go : Dec (m < n) → Dec (n < m) → pos m -ℤ pos n ≡ orderOf m n *ℤ pos (gapOf m n)
-    go (yes h) l = times (order-less m n h) (parts-eq _ _ (omega (arith, sub-parts (pos m) (pos n), mul-parts (negsuc 0) (gapOf m n))))
-    go (no h) (yes l) = times (order-more m n l) (parts-eq _ _ (omega (arith, sub-parts (pos m) (pos n), mul-parts (pos 1) (gapOf m n))))
-    go (no h) (no l) = times (order-same m n (omega arith)) (parts-eq _ _ (omega (arith, sub-parts (pos m) (pos n), mul-parts (pos 0) (gapOf m n))))
+    times : (z : ℤ) → orderOf m n ≡ z → m + down z * size ≡ n + up z * size → pos m -ℤ pos n ≡ orderOf m n *ℤ pos size
+    times z o e = rw o (parts-eq (pos m -ℤ pos n) (z *ℤ pos size) (omega (arith, sub-parts (pos m) (pos n), mul-parts z size, e)))
 
--- the order's sign, and whole seconds and attoseconds that make up the difference of the counts; the other way round only the
--- sign is turned
+    go : Dec (m < n) → Dec (n < m) → pos m -ℤ pos n ≡ orderOf m n *ℤ pos size
+    go (yes h) l = times (negsuc 0) (order-less m n h) (omega (arith, size-cut m n))
+    go (no h) (yes l) = times (pos 1) (order-more m n l) (omega (arith, size-cut m n))
+    go (no h) (no l) = times (pos 0) (order-same m n (omega arith)) (omega (arith, size-cut m n))
+
+-- the order's sign, and whole seconds and attoseconds that make up the size of the difference of the counts, with the sign the
+-- difference; the other way round only the sign is turned
 pub record IsDistance (s t : Timestamp) (d : Distance) : Type 0 where
   pub sign : d .sign ≡ cmpOf s t .order
   pub below : d .attoseconds < 10 ^ 18
+  pub size : d .seconds * 10 ^ 18 + d .attoseconds ≡ sizeOfDifference (countOf s) (countOf t)
   pub difference : pos (countOf s) -ℤ pos (countOf t) ≡ d .sign *ℤ pos (d .seconds * 10 ^ 18 + d .attoseconds)
   pub turned : distanceOf t s ≡ record { number = 0; sign = negℤ (d .sign); seconds = d .seconds; attoseconds = d .attoseconds }
 
@@ -46,9 +50,11 @@ distance-leads s t p q =
     let m = countOf s in
     let n = countOf t in
     let e = distance-zero s t (both-zero s t p q) in
+    let k = div-add-mod' (sizeOfDifference m n) (10 ^ 18) in
     record {
       sign = same-sign s t;
-      below = rw e (mod-lt (gapOf m n) (lit< tt));
-      difference = rw e (signed m n ∙ ap (λ (g : ℕ). orderOf m n *ℤ pos g) (sym (div-add-mod' (gapOf m n) (10 ^ 18))));
-      turned = rw e (distance-zero t s (both-zero t s q p) ∙ ap₂ distant (order-turned m n) (gap-sym n m));
+      below = rw e (mod-lt (sizeOfDifference m n) (lit< tt));
+      size = rw e k;
+      difference = rw e (signed m n ∙ ap (λ (x : ℕ). orderOf m n *ℤ pos x) (sym k));
+      turned = rw e (distance-zero t s (both-zero t s q p) ∙ ap₂ distant (order-turned m n) (size-sym n m));
     }

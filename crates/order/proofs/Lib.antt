@@ -1,6 +1,6 @@
 -- The laws of order and distance, for its own proofs and for the crates above. Assumes nothing.
 pub mod Orders
-pub mod Gaps
+pub mod Differences
 pub mod Clocks
 pub mod Instants
 pub mod Words

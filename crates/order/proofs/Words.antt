@@ -19,7 +19,7 @@ use Rattle.timestamp.proofs.Valid.{valid-in-range, accepted-word}
 use Rattle.order.specs.Counts.{orderOfPairs}
 use Rattle.order.specs.Local.{IsLocal, utcSeconds}
 use Rattle.order.proofs.Orders.{order-less, order-more, order-same, order-alike, order-shift, pairs-alike}
-use Rattle.order.proofs.Gaps.{digits-alike}
+use Rattle.order.proofs.Differences.{digits-alike}
 use Rattle.order.proofs.Clocks.{valid-local, utc-parts, order-by}
 
 -- ---- dates

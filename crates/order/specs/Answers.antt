@@ -2,7 +2,7 @@
 use Prim.Native.Nat.{ℕ, _/_, _%_, _^_}
 use mathlib.Core.Bool.{Bool}
 use lib.IntN.{ℤ}
-use Rattle.ion.specs.Order.{orderOf, gapOf}
+use Rattle.ion.specs.Order.{orderOf, sizeOfDifference}
 use Rattle.ion.specs.declared.Ordered.{Ordered}
 use Rattle.ion.specs.declared.Compared.{Compared}
 use Rattle.ion.specs.declared.Distance.{Distance}
@@ -15,8 +15,8 @@ compared b = record { number = 0; equal = b }
 
 -- a sign, and the size of the difference in attoseconds
 abbrev pub distant : ℤ → ℕ → Distance
-distant z gap = record { number = 0; sign = z; seconds = gap / 10 ^ 18; attoseconds = gap % 10 ^ 18 }
+distant z size = record { number = 0; sign = z; seconds = size / 10 ^ 18; attoseconds = size % 10 ^ 18 }
 
 -- the distance of two counts
 abbrev pub distanceOfCounts : ℕ → ℕ → Distance
-distanceOfCounts m n = distant (orderOf m n) (gapOf m n)
+distanceOfCounts m n = distant (orderOf m n) (sizeOfDifference m n)

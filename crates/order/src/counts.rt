@@ -3,7 +3,7 @@ use ion::Distance;
 use ion::MAX_ATTOSECONDS;
 ghost use mathlib.Core.Path.{_≡_};
 ghost use Prim.Native.Nat.{_+_, _*_, _^_, _≤_, _<_};
-ghost use Rattle.ion.specs.Order.{gapOf};
+ghost use Rattle.ion.specs.Order.{sizeOfDifference};
 ghost use Rattle.order.specs.Answers.{distant, distanceOfCounts};
 ghost use Rattle.order.specs.Counts.{orderOfPairs};
 
@@ -29,7 +29,7 @@ pub(crate) fn order_of_pairs(m: u64, a: u64, n: u64, b: u64) -> i32
 // The distance with a sign told, of seconds and attoseconds of which the first are not earlier.
 fn distance_by(sign: i32, m: u64, a: u64, n: u64, b: u64) -> Distance
     requires { ⌜ (a < 10 ^ 18) × (b < 10 ^ 18) × (n * 10 ^ 18 + b ≤ m * 10 ^ 18 + a) ⌝ }
-    ensures { λ r. ⌜ r ≡ distant sign (gapOf (m * 10 ^ 18 + a) (n * 10 ^ 18 + b)) ⌝ }
+    ensures { λ r. ⌜ r ≡ distant sign (sizeOfDifference (m * 10 ^ 18 + a) (n * 10 ^ 18 + b)) ⌝ }
 {
     if b <= a {
         return Distance {

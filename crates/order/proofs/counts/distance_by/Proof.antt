@@ -3,7 +3,7 @@ use Prim.Native.Nat.{_+_, _-_, _^_, _≤_, _<_}
 use native.Mathlib.Omega.{arith}
 use mir.Facts.{toZ-ofZ}
 use borrow.Author.Needs.{needs}
-use Rattle.order.proofs.Gaps.{whole-le, whole-lt, gap-plain, gap-borrowed, gap-is}
+use Rattle.order.proofs.Differences.{whole-le, whole-lt, size-plain, size-borrowed, size-parts}
 use Rattle.order.proofs.counts.distance_by.Statement.{statement}
 use Rattle.order.proofs.counts.distance_by.Tie as tie
 
@@ -23,8 +23,8 @@ returns : tie.Need-returns
 returns c =
     let x = c .before .args in
     let p = c .before .pre in
-    let e = gap-plain (10 ^ 18) (x .m) (x .n) (x .a) (x .b) (p .0) (p .1) (plain c) (c .if1 .taken) in
-    let g = gap-is (10 ^ 18) _ (x .m - x .n) (x .a - x .b) e (omega (arith, p .0)) in
+    let e = size-plain (10 ^ 18) (x .m) (x .n) (x .a) (x .b) (p .0) (p .1) (plain c) (c .if1 .taken) in
+    let g = size-parts (10 ^ 18) _ (x .m - x .n) (x .a - x .b) e (omega (arith, p .0)) in
     let z = toZ-ofZ (c .before .fits .sign) in
     λ i. record { number = 0; sign = z i; seconds = g .0 i; attoseconds = g .1 i }
 
@@ -39,8 +39,8 @@ returns-2 c =
     let x = c .before .args in
     let p = c .before .pre in
     let l = c .if1 .left in
-    let e = gap-borrowed (10 ^ 18) (x .m) (x .n) (x .a) (x .b) (p .0) (p .1) (borrowed c) l in
-    let g = gap-is (10 ^ 18) _ (x .m - x .n - 1) (x .a + 10 ^ 18 - x .b) e (omega (arith, l)) in
+    let e = size-borrowed (10 ^ 18) (x .m) (x .n) (x .a) (x .b) (p .0) (p .1) (borrowed c) l in
+    let g = size-parts (10 ^ 18) _ (x .m - x .n - 1) (x .a + 10 ^ 18 - x .b) e (omega (arith, l)) in
     let z = toZ-ofZ (c .before .fits .sign) in
     λ i. record { number = 0; sign = z i; seconds = g .0 i; attoseconds = g .1 i }
 

@@ -7,10 +7,10 @@ use mir.Syntax.{w32}
 use mir.Val.{toZ, ofZ}
 use mir.Facts.{toZ-ofZ}
 use borrow.Author.Needs.{needs, sfits-of}
-use Rattle.ion.specs.Order.{orderOf, gapOf}
+use Rattle.ion.specs.Order.{orderOf, sizeOfDifference}
 use Rattle.order.specs.Answers.{distant}
 use Rattle.order.proofs.Orders.{order-negative, order-not-negative}
-use Rattle.order.proofs.Gaps.{pairs-count, gap-sym}
+use Rattle.order.proofs.Differences.{pairs-count, size-sym}
 use Rattle.order.proofs.counts.distance_of_counts.Statement.{statement}
 use Rattle.order.proofs.counts.distance_of_counts.Tie as tie
 
@@ -44,7 +44,7 @@ distance-by-requires c κs = let p = c .before .before .pre in (p .1, p .0, le-o
 returns : tie.Need-returns
 returns c =
     let b = c .before .before in
-    c .distance-by .ensures ∙ ap₂ distant (sign b) (gap-sym (second b) (first b))
+    c .distance-by .ensures ∙ ap₂ distant (sign b) (size-sym (second b) (first b))
 
 distance-by-requires-2 : tie.Need-distance-by-requires-2
 distance-by-requires-2 c κs = let p = c .before .before .pre in (p .0, p .1, not-earlier c)
@@ -52,7 +52,7 @@ distance-by-requires-2 c κs = let p = c .before .before .pre in (p .0, p .1, no
 returns-2 : tie.Need-returns-2
 returns-2 c =
     let b = c .before .before in
-    c .distance-by2 .ensures ∙ ap (λ (z : ℤ). distant z (gapOf (first b) (second b))) (sign b)
+    c .distance-by2 .ensures ∙ ap (λ (z : ℤ). distant z (sizeOfDifference (first b) (second b))) (sign b)
 
 pub distance-of-counts-spec : {M : Type 1} → statement M
 distance-of-counts-spec =

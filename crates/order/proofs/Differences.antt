@@ -1,19 +1,25 @@
--- Orders and gaps of counts, each in whole seconds and attoseconds, K attoseconds a second. Assumes nothing.
+-- Orders and differences of counts, each in whole seconds and attoseconds, K attoseconds a second. Assumes nothing.
 use mathlib.Core.Path.{_≡_, sym, ap, ap₂, _∙_}
 use Prim.Native.Nat.{ℕ, suc, _+_, _-_, _*_, _/_, _%_, _≤_, _<_}
 use native.Mathlib.Nat.{mul-le-mul-right, suc-mul, add-mul, mul-sub, mul-comm}
 use native.Mathlib.Decide.{decLt, ℕ-discrete}
 use native.Mathlib.Omega.{arith}
 use lib.Arith.{digits-div, digits-mod}
-use Rattle.ion.specs.Order.{orderOf, gapOf}
+use lib.IntN.{pos, _-ℤ_}
+use Rattle.integers.proofs.Parts.{apart, sub-parts, natAbs-parts}
+use Rattle.ion.specs.Order.{orderOf, sizeOfDifference}
 use Rattle.order.specs.Counts.{orderOfPairs}
 use Rattle.order.proofs.Orders.{order-alike, pairs-first, pairs-second, pairs-alike}
 
-pub gap-shift : (m n s t : ℕ) → m + t ≡ n + s → gapOf m n ≡ gapOf s t
-gap-shift m n s t e = omega arith
+-- the size in natural numbers: of the two subtractions, cut off at 0, one is 0
+pub size-cut : (m n : ℕ) → sizeOfDifference m n ≡ (m - n) + (n - m)
+size-cut m n = let z = pos m -ℤ pos n in omega (arith, sub-parts (pos m) (pos n), natAbs-parts z, apart z)
 
-pub gap-sym : (m n : ℕ) → gapOf m n ≡ gapOf n m
-gap-sym m n = omega arith
+pub size-shift : (m n s t : ℕ) → m + t ≡ n + s → sizeOfDifference m n ≡ sizeOfDifference s t
+size-shift m n s t e = omega (arith, size-cut m n, size-cut s t)
+
+pub size-sym : (m n : ℕ) → sizeOfDifference m n ≡ sizeOfDifference n m
+size-sym m n = omega (arith, size-cut m n, size-cut n m)
 
 sub-mul : (m n k : ℕ) → (m - n) * k ≡ m * k - n * k
 sub-mul m n k = mul-comm (m - n) k ∙ mul-sub k m n ∙ ap₂ _-_ (mul-comm k m) (mul-comm k n)
@@ -28,9 +34,9 @@ module _ (K : ℕ) where
       let l : m * K + t * K ≡ n * K + s * K = sym (add-mul m t K) ∙ ap (λ (x : ℕ). x * K) e ∙ add-mul n s K in
       omega arith
 
-  -- seconds and attoseconds of a gap
-  pub gap-is : (g q r : ℕ) → g ≡ q * K + r → r < K → (q ≡ g / K) × (r ≡ g % K)
-  gap-is g q r e h = (sym (ap (λ (x : ℕ). x / K) e ∙ digits-div q h), sym (ap (λ (x : ℕ). x % K) e ∙ digits-mod q h))
+  -- seconds and attoseconds of a size
+  pub size-parts : (g q r : ℕ) → g ≡ q * K + r → r < K → (q ≡ g / K) × (r ≡ g % K)
+  size-parts g q r e h = (sym (ap (λ (x : ℕ). x / K) e ∙ digits-div q h), sym (ap (λ (x : ℕ). x % K) e ∙ digits-mod q h))
 
   module _ (s t a b : ℕ) (ha : a < K) where
     -- the seconds of a count that is not earlier
@@ -61,21 +67,23 @@ module _ (K : ℕ) where
               ∙ order-alike s t (s * K + a) (t * K + b) (earlier s t a b ha) (λ e. absurd (h e)) (earlier t s b a hb)
 
       -- the first is not earlier in seconds or attoseconds
-      pub gap-plain : t ≤ s → b ≤ a → gapOf (s * K + a) (t * K + b) ≡ (s - t) * K + (a - b)
-      gap-plain h k =
+      pub size-plain : t ≤ s → b ≤ a → sizeOfDifference (s * K + a) (t * K + b) ≡ (s - t) * K + (a - b)
+      size-plain h k =
           let l : t * K ≤ s * K = mul-le-mul-right K h in
           let e : (s - t) * K ≡ s * K - t * K = sub-mul s t K in
-          omega arith
+          omega (arith, size-cut (s * K + a) (t * K + b))
 
       -- the first is later in seconds and earlier in attoseconds: a second is borrowed
-      pub gap-borrowed : t < s → a < b → gapOf (s * K + a) (t * K + b) ≡ (s - t - 1) * K + (a + K - b)
-      gap-borrowed h k =
+      pub size-borrowed : t < s → a < b → sizeOfDifference (s * K + a) (t * K + b) ≡ (s - t - 1) * K + (a + K - b)
+      size-borrowed h k =
           let l : suc t * K ≤ s * K = mul-le-mul-right K h in
           let e : suc t * K ≡ t * K + K = suc-mul t K in
           let f : (s - suc t) * K ≡ s * K - suc t * K = sub-mul s (suc t) K in
           let g : s - t - 1 ≡ s - suc t = omega arith in
-          rw g (omega arith)
+          rw g (omega (arith, size-cut (s * K + a) (t * K + b)))
 
 -- numbers of two digits lie as their first digits do, whatever the bases
-pub digits-alike : (B C m n s t a b : ℕ) → a < B → b < B → a < C → b < C → orderOf m n ≡ orderOf s t → orderOf (m * B + a) (n * B + b) ≡ orderOf (s * C + a) (t * C + b)
+pub digits-alike :
+    (B C m n s t a b : ℕ) → a < B → b < B → a < C → b < C →
+    orderOf m n ≡ orderOf s t → orderOf (m * B + a) (n * B + b) ≡ orderOf (s * C + a) (t * C + b)
 digits-alike B C m n s t a b ha hb ka kb e = sym (pairs-count B m n a b ha hb) ∙ pairs-alike m n s t a b e ∙ pairs-count C s t a b ka kb
