@@ -35,7 +35,7 @@ use Rattle.ion.specs.declared.Read.{Read}
 
 -- ---- what a row states
 
-data Answer : Type 0 where
+pub data Answer : Type 0 where
   -- a number and a pair
   pair : ℕ → ℕ → ℕ → Answer
   number : ℕ → Answer
@@ -47,11 +47,11 @@ data Answer : Type 0 where
   -- sign, seconds and attoseconds
   distance : ℤ → ℕ → ℕ → Answer
 
--- a point of the paper, what the definitions give, and what the scope states
-record Row : Type 0 where
-  point : ℕ
-  given : Answer
-  stated : Answer
+-- a point of the scope, what the definitions give, and what the scope states
+pub record Row : Type 0 where
+  pub point : ℕ
+  pub given : Answer
+  pub stated : Answer
 
 row : ℕ → Answer → Answer → Row
 row p g s = record { point = p; given = g; stated = s }
@@ -149,7 +149,7 @@ p7Bytes = 0x66 ∷ 0x81 ∷ 0x80 ∷ 0x8c ∷ 0x9f ∷ 0x97 ∷ 0xbb ∷ []
 p8Bytes : List ℕ
 p8Bytes = 0x67 ∷ 0xc1 ∷ 0x4e ∷ 0x90 ∷ 0x81 ∷ 0x81 ∷ 0x80 ∷ 0x80 ∷ []
 
-table : List Row
+pub table : List Row
 table =
     row 1 (built p1) (pair 0 0x0004420000000000 0)
     ∷ row 1 (answered (checkOf (pairIs 0x0004420000000000 0))) (pair 0 0x0004420000000000 0)
@@ -185,6 +185,6 @@ table =
     ∷ []
 
 -- every row
-examples : map (λ (r : Row). r .given) table ≡ map (λ (r : Row). r .stated) table
+pub examples : map (λ (r : Row). r .given) table ≡ map (λ (r : Row). r .stated) table
 unfolding table row date minute sixth at p1 p3 p4 p5 p6 p7 p8 p1Bytes p3Bytes p4Bytes p5Bytes p6Bytes p7Bytes p8Bytes stamp answered built refused text written readBack taken compared apart placesOn places countIn count placeCount valueFrom groups varuint scanFrom readVarUInt signedCount signed varint readVarInt intCount int readInt decimalBytes padded isLeap monthLengthOf sumBelow wordOf fieldsOf capped numberOf pairOf checkOf utcFields countOf cmpOf eqOf distanceOf marked fractionText clockText minutesText offsetText fieldsText textOf offsetBytes varuints fieldCount fractionBytes bodyFrom bodyOf header valueOf decodeOffset decodeFields decodeFraction filled precisionWith decodeBody pairFrom same isBodyOf readBody readAfter readLength readOf
 examples = refl
