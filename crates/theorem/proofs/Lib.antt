@@ -1,3 +1,4 @@
+pub mod CountFields
 pub mod Counts
 pub mod Bytes
 pub mod TwoStamps

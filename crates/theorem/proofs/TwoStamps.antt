@@ -1,10 +1,15 @@
--- The theorem on any two accepted timestamps. Assumes nothing.
+-- The theorem on any two accepted timestamps, and on any two that the builder gives. Assumes nothing.
 use mathlib.Core.Path.{_≡_, sym, ap, ap₂, _∙_}
+use mathlib.Core.Logic.{⊎-elim}
 use mathlib.Core.Bool.{true}
 use mathlib.Core.List.{List, [], _++_, append-nil}
 use Prim.Native.Nat.{ℕ}
-use borrow.Author.Tests.{eq-eqb, eqb-true}
-use lib.IntN.{pos, _-ℤ_}
+use native.Mathlib.Decide.{ℕ-discrete}
+use borrow.Author.Tests.{eq-eqb, ne-eqb, eqb-true}
+use lib.IntN.{pos, natAbs, _-ℤ_}
+use Rattle.ion.specs.Pair.{wordIn}
+use Rattle.ion.specs.Build.{answer, numberOf, pairOf, buildOf}
+use Rattle.ion.specs.Stages.{Stage, Gives}
 use Rattle.ion.specs.Check.{checkOf}
 use Rattle.ion.specs.Accepted.{Accepted}
 use Rattle.ion.specs.Count.{countOf}
@@ -12,19 +17,39 @@ use Rattle.ion.specs.Order.{numberOfTwo, cmpOf, eqOf, distanceOf}
 use Rattle.ion.specs.Text.{textOf}
 use Rattle.ion.specs.Value.{valueOf}
 use Rattle.ion.specs.ReadValue.{readOf}
+use Rattle.ion.specs.declared.BuilderFields.{BuilderFields}
 use Rattle.ion.specs.declared.Timestamp.{Timestamp}
 use Rattle.ion.specs.declared.Read.{Read}
-use Rattle.timestamp.proofs.Accepts.{check-gives, check-accepts}
-use Rattle.order.proofs.Instants.{count-is}
+use Rattle.ion.specs.declared.Built.{Built}
+use Rattle.timestamp.proofs.Accepts.{check-gives, check-accepts, gives-checks}
 use Rattle.order.proofs.Answers.{both-zero}
 use Rattle.order.proofs.TimeOrder.{sign-is, equal-is}
 use Rattle.order.proofs.Distances.{IsDistance, distance-leads}
 use Rattle.timestamp_binary.proofs.Values as values
 use Rattle.timestamp_binary.proofs.Readings.{value-apart, value-injective}
-use Rattle.theorem.specs.TwoStamps.{utcCount, SignOf, TwoStamps}
+use Rattle.theorem.specs.TwoStamps.{utcCount, SignOf, Differ, TwoStamps}
+use Rattle.theorem.proofs.CountFields.{count-exact}
 use Rattle.theorem.proofs.Counts.{order-sign}
 use Rattle.theorem.proofs.Bytes.{writes, reads-back}
 use Rattle.timestamp_text.proofs.Distinct.{text-inj}
+
+module _ (s : Timestamp) (p : Accepted s) where
+  -- the pair that the packed check gives back
+  pair-stamp : checkOf s .stamp ≡ s
+  pair-stamp = ap (λ (x : Built). x .stamp) (check-accepts s p)
+
+  -- what is read of the value with any bytes after it
+  value-stamp : (r : List ℕ) → readOf (valueOf s ++ r) .stamp ≡ s
+  value-stamp r = ap (λ (x : Read). x .stamp) (values.value-back s p r)
+
+  value-number : (r : List ℕ) → readOf (valueOf s ++ r) .number ≡ 0
+  value-number r = ap (λ (x : Read). x .number) (values.value-back s p r)
+
+not-same : (s t : Timestamp) → Differ s t → s ≡ t → ⊥
+not-same s t d e = ⊎-elim (λ n. n (ap wordIn e)) (λ n. n (ap (λ (x : Timestamp). x .attoseconds) e)) d
+
+beginning-same : (s t : Timestamp) → Accepted s → Accepted t → (r : List ℕ) → valueOf s ++ r ≡ valueOf t → s ≡ t
+beginning-same s t p q r e = value-apart s t p q r [] (e ∙ sym (append-nil (valueOf t)))
 
 module _ (a b : Timestamp) (p : Accepted a) (q : Accepted b) where
   both : numberOfTwo a b ≡ 0
@@ -35,20 +60,20 @@ module _ (a b : Timestamp) (p : Accepted a) (q : Accepted b) where
 
   -- the signed difference of the counts
   difference : pos (countOf a) -ℤ pos (countOf b) ≡ utcCount a -ℤ utcCount b
-  difference = ap₂ _-ℤ_ (count-is a p) (count-is b q)
+  difference = ap₂ _-ℤ_ (count-exact a p) (count-exact b q)
 
   cmp-exact : SignOf (cmpOf a b .order) (utcCount a -ℤ utcCount b)
   cmp-exact = rw (sign-is a b p q, ← difference) (order-sign (countOf a) (countOf b))
 
   same-count : utcCount a ≡ utcCount b → countOf a ≡ countOf b
   same-count e =
-      let x : pos (countOf a) ≡ pos (countOf b) = count-is a p ∙ e ∙ sym (count-is b q) in
+      let x : pos (countOf a) ≡ pos (countOf b) = count-exact a p ∙ e ∙ sym (count-exact b q) in
       cc
 
   eq-exact : (eqOf a b .equal ≡ true → utcCount a ≡ utcCount b) × (utcCount a ≡ utcCount b → eqOf a b .equal ≡ true)
   eq-exact =
       rw (equal-is a b p q) (
-        (λ e. sym (count-is a p) ∙ ap pos (eqb-true (countOf a) (countOf b) e) ∙ count-is b q),
+        (λ e. sym (count-exact a p) ∙ ap pos (eqb-true (countOf a) (countOf b) e) ∙ count-exact b q),
         (λ e. eq-eqb (countOf a) (countOf b) (same-count e)),
       )
 
@@ -64,22 +89,12 @@ module _ (a b : Timestamp) (p : Accepted a) (q : Accepted b) where
   unfolding eqOf
   accepted-eq = both
 
-  -- a value with bytes after it gives its timestamp
-  stamp-back : (s : Timestamp) → Accepted s → (r : List ℕ) → readOf (valueOf s ++ r) .stamp ≡ s
-  stamp-back s z r = ap (λ (x : Read). x .stamp) (values.value-back s z r)
-
-  number-back : (s : Timestamp) → Accepted s → (r : List ℕ) → readOf (valueOf s ++ r) .number ≡ 0
-  number-back s z r = ap (λ (x : Read). x .number) (values.value-back s z r)
-
-  no-beginning : (s t : Timestamp) → Accepted s → Accepted t → (s ≡ t → ⊥) → (r : List ℕ) → valueOf s ++ r ≡ valueOf t → ⊥
-  no-beginning s t y z n r e = n (value-apart s t y z r [] (e ∙ sym (append-nil (valueOf t))))
-
   together : TwoStamps a b
   together =
       record {
-        count-exact = (count-is a p, count-is b q);
+        count-exact = (count-exact a p, count-exact b q);
         distance-accepted = accepted-distance;
-        distance-exact = sym (distance .difference) ∙ difference;
+        distance-exact = distance .size ∙ ap natAbs difference;
         distance-parts = distance .below;
         distance-sign = rw (distance .sign) cmp-exact;
         cmp-accepted = accepted-cmp;
@@ -88,20 +103,49 @@ module _ (a b : Timestamp) (p : Accepted a) (q : Accepted b) where
         eq-exact = eq-exact;
         pair-back = (check-accepts a p, check-accepts b q);
         value-back = (reads-back a p, reads-back b q);
-        same-answers = λ d e. (
-          number-back a p d,
-          number-back b q e,
-          ap₂ distanceOf (stamp-back a p d) (stamp-back b q e),
-          ap₂ cmpOf (stamp-back a p d) (stamp-back b q e),
-          ap₂ eqOf (stamp-back a p d) (stamp-back b q e),
+        same-by-pair = (
+          ap₂ distanceOf (pair-stamp a p) (pair-stamp b q),
+          ap₂ cmpOf (pair-stamp a p) (pair-stamp b q),
+          ap₂ eqOf (pair-stamp a p) (pair-stamp b q),
+        );
+        same-by-value = λ d e. (
+          value-number a p d,
+          value-number b q e,
+          ap₂ distanceOf (value-stamp a p d) (value-stamp b q e),
+          ap₂ cmpOf (value-stamp a p d) (value-stamp b q e),
+          ap₂ eqOf (value-stamp a p d) (value-stamp b q e),
         );
         texts-written = (writes a p (textOf a), writes b q (textOf b));
         values-written = (writes a p (valueOf a), writes b q (valueOf b));
-        texts-differ = λ n e. n (text-inj a b p q e);
-        values-differ = λ n e. n (value-injective a b p q e);
-        no-beginning = λ n r. (no-beginning a b p q n r, no-beginning b a q p (λ e. n (sym e)) r);
+        texts-differ = λ d e. not-same a b d (text-inj a b p q e);
+        values-differ = λ d e. not-same a b d (value-injective a b p q e);
+        no-beginning = λ d r. (
+          (λ e. not-same a b d (beginning-same a b p q r e)),
+          (λ e. not-same a b d (sym (beginning-same b a q p r e))),
+        );
       }
 
 -- for every two timestamps that the packed check accepts, whatever their precisions and offsets
 pub two-stamps : (a b : Timestamp) → checkOf a .number ≡ 0 → checkOf b .number ≡ 0 → TwoStamps a b
 two-stamps a b p q = together a b (check-gives a p) (check-gives b q)
+
+-- ---- and so for every two that the builder gives
+
+-- the number and the pair of an answer that accepts
+answered : (n : ℕ) (s : Timestamp) → answer n s .number ≡ 0 → (n ≡ 0) × (answer n s .stamp ≡ s)
+answered n s e = go (ℕ-discrete n 0)
+  where
+    go : Dec (n ≡ 0) → (n ≡ 0) × (answer n s .stamp ≡ s)
+    go (yes h) = (h, simp (eq-eqb n 0 h))
+    go (no k) = absurd (k (simp (ne-eqb n 0 k) at e))
+
+built-checks : {t : Stage} {f : BuilderFields} → Gives t f → buildOf f .number ≡ 0 → checkOf (buildOf f .stamp) .number ≡ 0
+built-checks {t} {f} h e =
+    let x = answered (numberOf f) (pairOf f) e in
+    ap (λ (s : Timestamp). checkOf s .number) (x .1) ∙ ap (λ (b : Built). b .number) (gives-checks h (x .0))
+
+-- of the fields that the stages give
+pub two-built :
+    {t u : Stage} {f g : BuilderFields} → Gives t f → Gives u g →
+    buildOf f .number ≡ 0 → buildOf g .number ≡ 0 → TwoStamps (buildOf f .stamp) (buildOf g .stamp)
+two-built {t} {u} {f} {g} h k p q = two-stamps (buildOf f .stamp) (buildOf g .stamp) (built-checks h p) (built-checks k q)

@@ -1,16 +1,17 @@
 -- What demand 3 says of any two accepted timestamps, sentence by sentence, of the definitions that the contracts cite. Assumes nothing.
 use mathlib.Core.Path.{_≡_}
+use mathlib.Core.Logic.{_⊎_}
 use mathlib.Core.Bool.{true}
 use mathlib.Core.List.{List, _++_}
 use Prim.Native.Nat.{ℕ, _+_, _*_, _^_, _≤_, _<_}
-use lib.IntN.{ℤ, pos, negsuc, _-ℤ_, _*ℤ_}
+use lib.IntN.{ℤ, pos, negsuc, natAbs, _-ℤ_, _*ℤ_}
 use lib.ListN.{length, take, drop}
 use Rattle.ion.specs.Pair.{wordIn}
 use Rattle.ion.specs.Word.{fieldsOf}
 use Rattle.ion.specs.Output.{over, putAfter, wroteAfter}
 use Rattle.ion.specs.Shift.{minuteNumber}
 use Rattle.ion.specs.Build.{accepted}
-use Rattle.ion.specs.Check.{checkOf}
+use Rattle.ion.specs.Check.{givenAt, checkOf}
 use Rattle.ion.specs.Accepted.{timeIn}
 use Rattle.ion.specs.Count.{attosecondsIn, offsetIn, countOf}
 use Rattle.ion.specs.Order.{cmpOf, eqOf, distanceOf}
@@ -18,17 +19,29 @@ use Rattle.ion.specs.Text.{textOf}
 use Rattle.ion.specs.Value.{valueOf}
 use Rattle.ion.specs.ReadValue.{acceptedReading, readOf}
 use Rattle.ion.specs.declared.Timestamp.{Timestamp}
-use Rattle.ion.specs.declared.Distance.{Distance}
+use Rattle.ion.specs.declared.Fields.{Fields}
+
+-- the fields, with the first value of each that the precision does not have
+abbrev pub withFirstValues : Fields → Fields
+withFirstValues f =
+    record {
+      year = f .year;
+      month = givenAt 1 (f .precision) (f .month) 1;
+      day = givenAt 2 (f .precision) (f .day) 1;
+      hour = givenAt 3 (f .precision) (f .hour) 0;
+      minute = givenAt 3 (f .precision) (f .minute) 0;
+      second = givenAt 4 (f .precision) (f .second) 0;
+      precision = f .precision;
+      digits = f .digits;
+      offset = f .offset;
+    }
 
 -- the UTC count in signed numbers: the local count less the offset's attoseconds
-abbrev pub utcCount : Timestamp → ℤ
-utcCount s =
-    let f = fieldsOf (wordIn s) in
-    pos (attosecondsIn (minuteNumber (timeIn f)) (f .second) (s .attoseconds)) -ℤ offsetIn f *ℤ pos (60 * 10 ^ 18)
+abbrev pub utcCountIn : Fields → ℕ → ℤ
+utcCountIn f a = pos (attosecondsIn (minuteNumber (timeIn f)) (f .second) a) -ℤ offsetIn f *ℤ pos (60 * 10 ^ 18)
 
--- a distance in signed attoseconds
-abbrev pub signedSize : Distance → ℤ
-signedSize d = d .sign *ℤ pos (d .seconds * 10 ^ 18 + d .attoseconds)
+abbrev pub utcCount : Timestamp → ℤ
+utcCount s = utcCountIn (withFirstValues (fieldsOf (wordIn s))) (s .attoseconds)
 
 -- an order -1, 0 or 1, and the sign of a signed number
 pub data SignOf : ℤ → ℤ → Type 0 where
@@ -36,25 +49,30 @@ pub data SignOf : ℤ → ℤ → Type 0 where
   none : SignOf (pos 0) (pos 0)
   above : (n : ℕ) → 0 < n → SignOf (pos 1) (pos n)
 
+-- the words or the attoseconds are not the same
+abbrev pub Differ : Timestamp → Timestamp → Type 0
+Differ a b = (wordIn a ≡ wordIn b → ⊥) ⊎ (a .attoseconds ≡ b .attoseconds → ⊥)
+
 -- what a writer of the bytes b for the timestamp s does in any buffer with room for them: it answers 0 and their number, and writes them
 abbrev pub Writes : Timestamp → List ℕ → Type 0
 Writes s b =
     (d : List ℕ) (at : ℕ) → at + length b ≤ length d
-    → (wroteAfter (checkOf s .number) d at b ≡ record { number = 0; written = length b }) × (putAfter (checkOf s .number) d at b ≡ over d at b)
+    → (wroteAfter (checkOf s .number) d at b ≡ record { number = 0; written = length b })
+    × (putAfter (checkOf s .number) d at b ≡ over d at b)
 
 -- what the value writer wrote, answering 0, is read back with any bytes or none after it: the pair, and as many taken as were written
 abbrev pub ReadsBack : Timestamp → Type 0
 ReadsBack s =
     (d : List ℕ) (at : ℕ) (r : List ℕ)
-    → wroteAfter (checkOf s .number) d at (valueOf s) .number ≡ 0
-    → readOf (take (wroteAfter (checkOf s .number) d at (valueOf s) .written) (drop at (putAfter (checkOf s .number) d at (valueOf s))) ++ r)
-    ≡ acceptedReading s (wroteAfter (checkOf s .number) d at (valueOf s) .written)
+    → let w = wroteAfter (checkOf s .number) d at (valueOf s) in
+    let e = putAfter (checkOf s .number) d at (valueOf s) in
+    w .number ≡ 0 → readOf (take (w .written) (drop at e) ++ r) ≡ acceptedReading s (w .written)
 
 pub record TwoStamps (a b : Timestamp) : Type 0 where
   -- distance, `cmp` and `==` follow the UTC attosecond counts exactly
   pub count-exact : (pos (countOf a) ≡ utcCount a) × (pos (countOf b) ≡ utcCount b)
   pub distance-accepted : distanceOf a b .number ≡ 0
-  pub distance-exact : signedSize (distanceOf a b) ≡ utcCount a -ℤ utcCount b
+  pub distance-exact : distanceOf a b .seconds * 10 ^ 18 + distanceOf a b .attoseconds ≡ natAbs (utcCount a -ℤ utcCount b)
   pub distance-parts : distanceOf a b .attoseconds < 10 ^ 18
   pub distance-sign : SignOf (distanceOf a b .sign) (utcCount a -ℤ utcCount b)
   pub cmp-accepted : cmpOf a b .number ≡ 0
@@ -66,7 +84,10 @@ pub record TwoStamps (a b : Timestamp) : Type 0 where
   -- through the value bytes and back, with whatever bytes after them
   pub value-back : ReadsBack a × ReadsBack b
   -- and then the same answers
-  pub same-answers : (d e : List ℕ) → (readOf (valueOf a ++ d) .number ≡ 0) × (readOf (valueOf b ++ e) .number ≡ 0)
+  pub same-by-pair : (distanceOf (checkOf a .stamp) (checkOf b .stamp) ≡ distanceOf a b)
+      × (cmpOf (checkOf a .stamp) (checkOf b .stamp) ≡ cmpOf a b)
+      × (eqOf (checkOf a .stamp) (checkOf b .stamp) ≡ eqOf a b)
+  pub same-by-value : (d e : List ℕ) → (readOf (valueOf a ++ d) .number ≡ 0) × (readOf (valueOf b ++ e) .number ≡ 0)
       × (distanceOf (readOf (valueOf a ++ d) .stamp) (readOf (valueOf b ++ e) .stamp) ≡ distanceOf a b)
       × (cmpOf (readOf (valueOf a ++ d) .stamp) (readOf (valueOf b ++ e) .stamp) ≡ cmpOf a b)
       × (eqOf (readOf (valueOf a ++ d) .stamp) (readOf (valueOf b ++ e) .stamp) ≡ eqOf a b)
@@ -74,6 +95,6 @@ pub record TwoStamps (a b : Timestamp) : Type 0 where
   pub texts-written : Writes a (textOf a) × Writes b (textOf b)
   pub values-written : Writes a (valueOf a) × Writes b (valueOf b)
   -- different timestamps have different texts and values, and neither value is the beginning of the other
-  pub texts-differ : (a ≡ b → ⊥) → textOf a ≡ textOf b → ⊥
-  pub values-differ : (a ≡ b → ⊥) → valueOf a ≡ valueOf b → ⊥
-  pub no-beginning : (a ≡ b → ⊥) → (r : List ℕ) → (valueOf a ++ r ≡ valueOf b → ⊥) × (valueOf b ++ r ≡ valueOf a → ⊥)
+  pub texts-differ : Differ a b → textOf a ≡ textOf b → ⊥
+  pub values-differ : Differ a b → valueOf a ≡ valueOf b → ⊥
+  pub no-beginning : Differ a b → (r : List ℕ) → (valueOf a ++ r ≡ valueOf b → ⊥) × (valueOf b ++ r ≡ valueOf a → ⊥)
