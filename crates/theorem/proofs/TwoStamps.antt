@@ -4,11 +4,10 @@ use mathlib.Core.Logic.{⊎-elim}
 use mathlib.Core.Bool.{true}
 use mathlib.Core.List.{List, [], _++_, append-nil}
 use Prim.Native.Nat.{ℕ}
-use native.Mathlib.Decide.{ℕ-discrete}
-use borrow.Author.Tests.{eq-eqb, ne-eqb, eqb-true}
+use borrow.Author.Tests.{eq-eqb, eqb-true}
 use lib.IntN.{pos, natAbs, _-ℤ_}
 use Rattle.ion.specs.Pair.{wordIn}
-use Rattle.ion.specs.Build.{answer, numberOf, pairOf, buildOf}
+use Rattle.ion.specs.Build.{buildOf}
 use Rattle.ion.specs.Stages.{Stage, Gives}
 use Rattle.ion.specs.Check.{checkOf}
 use Rattle.ion.specs.Accepted.{Accepted}
@@ -21,7 +20,7 @@ use Rattle.ion.specs.declared.BuilderFields.{BuilderFields}
 use Rattle.ion.specs.declared.Timestamp.{Timestamp}
 use Rattle.ion.specs.declared.Read.{Read}
 use Rattle.ion.specs.declared.Built.{Built}
-use Rattle.timestamp.proofs.Accepts.{check-gives, check-accepts, gives-checks}
+use Rattle.timestamp.proofs.Accepts.{check-gives, check-accepts, built-checks}
 use Rattle.order.proofs.Answers.{both-zero}
 use Rattle.order.proofs.TimeOrder.{sign-is, equal-is}
 use Rattle.order.proofs.Distances.{IsDistance, distance-leads}
@@ -131,21 +130,11 @@ two-stamps a b p q = together a b (check-gives a p) (check-gives b q)
 
 -- ---- and so for every two that the builder gives
 
--- the number and the pair of an answer that accepts
-answered : (n : ℕ) (s : Timestamp) → answer n s .number ≡ 0 → (n ≡ 0) × (answer n s .stamp ≡ s)
-answered n s e = go (ℕ-discrete n 0)
-  where
-    go : Dec (n ≡ 0) → (n ≡ 0) × (answer n s .stamp ≡ s)
-    go (yes h) = (h, simp (eq-eqb n 0 h))
-    go (no k) = absurd (k (simp (ne-eqb n 0 k) at e))
-
-built-checks : {t : Stage} {f : BuilderFields} → Gives t f → buildOf f .number ≡ 0 → checkOf (buildOf f .stamp) .number ≡ 0
-built-checks {t} {f} h e =
-    let x = answered (numberOf f) (pairOf f) e in
-    ap (λ (s : Timestamp). checkOf s .number) (x .1) ∙ ap (λ (b : Built). b .number) (gives-checks h (x .0))
+accepted-built : {t : Stage} {f : BuilderFields} → Gives t f → buildOf f .number ≡ 0 → checkOf (buildOf f .stamp) .number ≡ 0
+accepted-built h e = ap (λ (b : Built). b .number) (built-checks h e) ∙ e
 
 -- of the fields that the stages give
 pub two-built :
     {t u : Stage} {f g : BuilderFields} → Gives t f → Gives u g →
     buildOf f .number ≡ 0 → buildOf g .number ≡ 0 → TwoStamps (buildOf f .stamp) (buildOf g .stamp)
-two-built {t} {u} {f} {g} h k p q = two-stamps (buildOf f .stamp) (buildOf g .stamp) (built-checks h p) (built-checks k q)
+two-built {t} {u} {f} {g} h k p q = two-stamps (buildOf f .stamp) (buildOf g .stamp) (accepted-built h p) (accepted-built k q)

@@ -67,7 +67,7 @@ rebuilt-staged f a =
 
 -- ---- valid fields: every one is handed on
 
-given-same : (from p x first : ℕ) → (p < from → x ≡ first) → givenAt from p x first ≡ x
+pub given-same : (from p x first : ℕ) → (p < from → x ≡ first) → givenAt from p x first ≡ x
 given-same from p x first h = go (decLe from p)
   where
     go : Dec (from ≤ p) → givenAt from p x first ≡ x
