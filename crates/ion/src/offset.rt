@@ -5,6 +5,12 @@ ghost use Prim.Native.Nat.{_<_};
 ghost use lib.IntN.{natAbs, negℤ, _-ℤ_};
 ghost use Rattle.ion.specs.Offset.{minutesIs, rawIs, offsetOf, rawOf, minutesOf, isOffset, WithinDay};
 
+// The text of an unknown offset.
+pub const UNKNOWN_TEXT: [u8; 6] = *b"-00:00";
+
+// The text of a known offset of zero.
+pub const ZERO_TEXT: [u8; 6] = *b"+00:00";
+
 // The biased 12-bit number of a packed word: 0 for unknown, else minutes plus 1,440.
 pub struct RawOffset(u16);
 

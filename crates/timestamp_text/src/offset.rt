@@ -35,7 +35,7 @@ fn put_minutes(b: &mut [u8], at: usize, m: OffsetMinutes) -> usize
         let next = part::put_byte(b, at, b'+');
         return put_clock(b, next, z as u32);
     }
-    output::copy_in(b, at, b"+00:00");
+    output::copy_in(b, at, &offset::ZERO_TEXT);
     at + 6
 }
 
@@ -46,7 +46,7 @@ pub(crate) fn format_offset(b: &mut [u8], at: usize, raw: RawOffset) -> usize
     let o = offset::offset_of(raw);
     match o {
         Offset::Unknown => {
-            output::copy_in(b, at, b"-00:00");
+            output::copy_in(b, at, &offset::UNKNOWN_TEXT);
             at + 6
         }
         Offset::Known(m) => put_minutes(b, at, m),
