@@ -7,9 +7,9 @@ use ion::Fields;
 use ion::IntRead;
 use ion::VarIntRead;
 use ion::VarUIntRead;
+use ion::offset;
 use ion::offset::Offset;
 use ion::offset::OffsetMinutes;
-use ion::offset::RawOffset;
 ghost use mathlib.Core.Path.{_≡_};
 ghost use mathlib.Core.Bool.{false};
 ghost use Prim.Native.Nat.{_≤_};
@@ -172,7 +172,7 @@ fn after_offset(s: &[u8], at: usize, offset: Offset) -> BodyRead
                 second: values[5],
                 precision: precision_with(f.count),
                 digits: digits,
-                offset: RawOffset::new(0),
+                offset: offset::raw_of(Offset::Unknown),
             },
             coefficient: coefficient,
         }),

@@ -36,7 +36,7 @@ returns-2 c =
     let f = r .before .before .before .before .before .before in
     let o = f .before .before .args .offset in
     let l = f .read-fields .result in
-    rw (c .new .ensures)
+    rw (c .raw-of .ensures)
     (ap found (body-values (f .read-fields .ensures) o _ _ _ (p .precision-with .ensures))
     ∙ sym (whole r ∙ ap (λ x. afterFields o (take (l .count) (l .values)) (fractionIn x)) (d .digits .given .1)))
 
