@@ -12,12 +12,12 @@ pub enum Listed {
 pub const ALL: [(Listed, &str); 2] = [
     (
         Listed::LargestFromZero,
-        "month or day 4294967295 counted from 0: the document refuses it with 3 or 4; \
+        "month or day 4294967295 counted from 0: the scope refuses it with 3 or 4; \
          the Rust panics (debug) or wraps to 0 (release)",
     ),
     (
         Listed::OrderOfUtcForms,
-        "a UTC form of year 0 or 10000: the document's order refuses it with 11 or 2; the Rust goes on to order it",
+        "a UTC form of year 0 or 10000: the scope's order refuses it with 11 or 2; the Rust goes on to order it",
     ),
 ];
 

@@ -31,7 +31,9 @@ varuint-answer-injective =
     (λ a. elim a [ uint.Value v n ↦ refl | uint.Cut ↦ refl | uint.Bad ↦ refl ])
 
 pub varint-answer-injective : {a b : VarIntRead} → varIntAnswer a ≡ varIntAnswer b → a ≡ b
-varint-answer-injective = injective varIntAnswer int.Value int.Cut int.Bad (λ a. elim a [ int.Value g m n ↦ refl | int.Cut ↦ refl | int.Bad ↦ refl ])
+varint-answer-injective =
+    injective varIntAnswer int.Value int.Cut int.Bad
+    (λ a. elim a [ int.Value g m n ↦ refl | int.Cut ↦ refl | int.Bad ↦ refl ])
 
 pub int-answer-injective : (n : ℕ) {a b : IntRead} → intAnswer n a ≡ intAnswer n b → a ≡ b
 int-answer-injective n =

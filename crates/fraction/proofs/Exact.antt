@@ -21,7 +21,9 @@ attoseconds-exact c digits h = go (decLe digits 38)
   where
     go : Dec (digits ≤ 38) → attosecondsOf c digits ≡ c * 10 ^ 18 / 10 ^ digits
     go (yes l) = let e : min digits 38 ≡ digits = omega arith in ap (λ (k : ℕ). c * 10 ^ 18 / 10 ^ k) e
-    go (no n) = none-left (c * 10 ^ 18) 38 (min digits 38) (small c h) (omega arith) ∙ sym (none-left (c * 10 ^ 18) 38 digits (small c h) (omega arith))
+    go (no n) =
+        let a = c * 10 ^ 18 in
+        none-left a 38 (min digits 38) (small c h) (omega arith) ∙ sym (none-left a 38 digits (small c h) (omega arith))
 
 -- up to eighteen digits nothing is dropped
 pub none-dropped : (c digits : ℕ) → digits ≤ 18 → attosecondsOf c digits * 10 ^ digits ≡ c * 10 ^ 18

@@ -1,5 +1,5 @@
 //! The scope (docs/SCOPE.md) in plain Rust, written from its words and not from ion-rust's code. It stands where the proved library
-//! will: held against the Rust, it shows where the document and the Rust differ. It also gives the answers for which
+//! will: held against the Rust, it shows where the scope and the Rust differ. It also gives the answers for which
 //! ion-rust has no code, the distance.
 
 pub mod calendar;

@@ -27,8 +27,9 @@ returns-2 c =
     let e1 = c .before .before .before in
     let u = e1 .before in
     let s = u .before .args .s in
+    let b = c .before .before .rebuild .ensures ∙ ap (λ (f : Fields). rebuilt f (s .attoseconds)) (u .unpack .ensures) in
     c .same-as .ensures
-    ∙ ap (sameAs s) (c .before .build-fields .ensures ∙ ap buildOf (c .before .before .rebuild .ensures ∙ ap (λ (f : Fields). rebuilt f (s .attoseconds)) (u .unpack .ensures)))
+    ∙ ap (sameAs s) (c .before .build-fields .ensures ∙ ap buildOf b)
     ∙ sym (check-built s (subst (λ (f : Fields). f .digits ≤ 18) (u .unpack .ensures) (e1 .if1 .left)))
 
 pub check-by-building-spec : {M : Type 1} → statement M
