@@ -1,7 +1,7 @@
 -- P1 to P12 of the scope, as one table of rows and one theorem: what the definitions give at each row is what the scope states.
 -- Assumes nothing.
-use Prim.Native.Nat.{ℕ, _+_, _*_, _^_}
-use mathlib.Core.Bool.{Bool, true, false}
+use Prim.Native.Nat.{ℕ, _+_}
+use mathlib.Core.Bool.{Bool, true}
 use mathlib.Core.List.{List, [], _∷_, _++_, map}
 use mathlib.Core.Path.{_≡_, refl}
 use lib.IntN.{ℤ, pos, negsuc}
@@ -31,7 +31,6 @@ use Rattle.ion.specs.declared.BuilderFields.{BuilderFields}
 use Rattle.ion.specs.declared.BuilderOffset.the-variants.{FromLocalFields}
 use Rattle.ion.specs.declared.Timestamp.{Timestamp}
 use Rattle.ion.specs.declared.Built.{Built}
-use Rattle.ion.specs.declared.Read.{Read}
 
 -- ---- what a row states
 

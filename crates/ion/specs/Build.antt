@@ -67,7 +67,7 @@ ranges f =
     ∷ (outside (f .offset), refused.offsetRefused)
     ∷ []
 
--- whether there is such a calendar day; that of a year alone is its first, which there always is: `first-day-is`
+-- whether there is such a calendar day; that of a year alone is its first, which there always is: `year-alone` of crate builder
 abbrev pub isDay : BuilderFields → Bool
 isDay f = isDate (record { year = f .year; month = f .month; day = f .day })
 

@@ -1,7 +1,7 @@
 -- The UTC form: the offset is subtracted and marked unknown. Assumes nothing.
 use mathlib.Core.Bool.{cond}
 use lib.Dec.{eqb}
-use lib.IntN.{ℤ, negℤ}
+use lib.IntN.{negℤ}
 use Rattle.ion.specs.Offset.{rawOf, offsetOf}
 use Rattle.ion.specs.Shift.{shifted}
 use Rattle.ion.specs.Word.{wordOf, fieldsOf}

@@ -3,8 +3,6 @@
 use mathlib.Core.Path.{_≡_, sym, ap, _∙_}
 use Prim.Native.Nat.{ℕ}
 use lib.IntN.{pos}
-use Rattle.ion.specs.Pair.{wordIn}
-use Rattle.ion.specs.Word.{fieldsOf}
 use Rattle.ion.specs.Accepted.{Valid, Accepted}
 use Rattle.ion.specs.Count.{countOf}
 use Rattle.ion.specs.declared.Fields.{Fields}

@@ -2,7 +2,7 @@
 use mathlib.Core.Path.{_≡_, sym, ap, subst, _∙_}
 use borrow.Author.Needs.{needs}
 use Rattle.ion.specs.Offset.{WithinDay, minutesIs, minutesOf}
-use Rattle.ion.specs.Build.{firstOf, ranges, offsetIs, localChecks, givenTime, pairAt, refusal, answer, buildOf}
+use Rattle.ion.specs.Build.{firstOf, ranges, offsetIs, localChecks, givenTime, pairAt, refusal, answer}
 use Rattle.ion.specs.Accepted.{InBounds}
 use Rattle.ion.specs.declared.offset.Offset.{Offset}
 use Rattle.builder.proofs.Checks.{AllPass}
