@@ -39,7 +39,7 @@ fn main() {
     println!("cargo:rerun-if-changed={}", stand_ins.display());
 
     if env::var_os("CARGO_FEATURE_OURS").is_some() {
-        link_ours(&from_environment("OURS_LIB", &repository, "target/staticlib/libexports.a"));
+        link_ours(&from_environment("OURS_LIB", &repository, "target/staticlib/libtest_exports.a"));
     }
 }
 
@@ -78,7 +78,7 @@ fn write_root(tree: &Path, root: &Path) {
 
 fn link_ours(archive: &Path) {
     if !archive.is_file() {
-        panic!("no library at {}: make it with `rt staticlib exports`, or set OURS_LIB", archive.display());
+        panic!("no library at {}: make it with `rt staticlib test_exports`, or set OURS_LIB", archive.display());
     }
     let name = archive.file_stem().unwrap().to_str().unwrap();
     let name = name.strip_prefix("lib").expect("the archive's name begins with lib");

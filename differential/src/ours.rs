@@ -1,9 +1,9 @@
-//! The proved library: its exported calls, made by `rt staticlib exports` and linked under the feature `ours`.
+//! The proved library: its exported calls, made by `rt staticlib test_exports` and linked under the feature `ours`.
 //!
 //! Every call returns the scope's number. Everything else that it answers comes back through references, which a
 //! refusal sets to 0; a byte slice is a pointer and a length. The numbers above 100 are the exported calls' own, for
 //! codes that stand for nothing and for a shift of what is no date and time. Nothing checks these declarations against
-//! the library's own (crates/exports/src), so they stand in this one place.
+//! the library's own (crates/test_exports/src), so they stand in this one place.
 
 use crate::calls::*;
 

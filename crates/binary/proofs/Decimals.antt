@@ -8,9 +8,9 @@ use borrow.Author.Tests.{ne-eqb}
 use lib.Dec.{eqb}
 use lib.IntN.{ℤ, negsuc, natAbs}
 use lib.ListN.{length, length-append}
-use Rattle.ion.specs.VarInt.{isNegative, signedCount, varint}
-use Rattle.ion.specs.Int.{intCount, int}
-use Rattle.ion.specs.Decimal.{decimalBytes}
+use Rattle.ion.specs.Numbers.VarInt.{isNegative, signedCount, varint}
+use Rattle.ion.specs.Numbers.Int.{intCount, int}
+use Rattle.ion.specs.Numbers.Decimal.{decimalBytes}
 use Rattle.binary.proofs.VarInts.{length-signed}
 use Rattle.binary.proofs.Ints.{length-int}
 

@@ -14,7 +14,7 @@ use Rattle.places.specs.Places.{plain, placesOn, valueFrom}
 use Rattle.places.proofs.Laws.{places-append, places-add, value-on}
 use Rattle.places.proofs.Below.{Below}
 use Rattle.places.proofs.Values.{place-more}
-use Rattle.ion.specs.VarUInt.{groups, upTo, scanFrom}
+use Rattle.ion.specs.Numbers.VarUInt.{groups, upTo, scanFrom}
 use Rattle.ion.specs.declared.VarUIntRead.the-variants.{Value, Bad}
 
 -- ---- the groups are the places of base 128, of which the last is marked

@@ -16,7 +16,7 @@ use Rattle.places.proofs.Laws.{length-places, count-zero, count-next, count-hol
 use Rattle.places.proofs.Below.{Below}
 use Rattle.places.proofs.Values.{value-is, value-least, value-below}
 use Rattle.places.proofs.Bits.{double-zeros}
-use Rattle.ion.specs.Int.{intCount, int, bigEndian, readInt}
+use Rattle.ion.specs.Numbers.Int.{intCount, int, bigEndian, readInt}
 use Rattle.ion.specs.declared.IntRead.the-variants.{Value, Bad}
 
 pub length-int : (m : ℕ) → length (int m) ≡ intCount m

@@ -4,8 +4,8 @@ use mathlib.Core.Path.{_≡_, refl, sym, ap, _∙_}
 use mathlib.Core.Bool.{Bool, cond}
 use Prim.Native.Nat.{ℕ}
 use lib.Dec.{eqb}
-use Rattle.ion.specs.Refusal.{inputEnds}
-use Rattle.ion.specs.NumberReads.{NumberRead, varUIntAnswer, varIntAnswer, intAnswer}
+use Rattle.ion.specs.Calls.Refusal.{inputEnds}
+use Rattle.ion.specs.Numbers.NumberReads.{NumberRead, varUIntAnswer, varIntAnswer, intAnswer}
 use Rattle.ion.specs.declared.VarUIntRead.{VarUIntRead}
 use Rattle.ion.specs.declared.VarUIntRead.the-variants as uint
 use Rattle.ion.specs.declared.VarIntRead.{VarIntRead}

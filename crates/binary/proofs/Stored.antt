@@ -8,9 +8,9 @@ use lib.ListN.{length, take, drop, set, getD, length-append}
 use lib.Seq.{length-take-le, take-set-le, getD-at, set-at}
 use Rattle.places.specs.Places.{plain, placesOn}
 use Rattle.places.proofs.Laws.{store-front}
-use Rattle.ion.specs.Output.{over}
-use Rattle.ion.specs.VarUInt.{groups}
-use Rattle.ion.specs.VarInt.{signedCount, signed}
+use Rattle.ion.specs.Calls.Output.{over}
+use Rattle.ion.specs.Numbers.VarUInt.{groups}
+use Rattle.ion.specs.Numbers.VarInt.{signedCount, signed}
 use Rattle.output.proofs.Stores.{over-is}
 use Rattle.binary.proofs.Groups.{groups-append, length-groups}
 use Rattle.binary.proofs.VarInts.{sign-free}

@@ -19,8 +19,8 @@ use Rattle.places.specs.Places.{placesOn}
 use Rattle.places.proofs.Laws.{held, place-monotone}
 use Rattle.places.proofs.Below.{Below, below-cons}
 use Rattle.places.proofs.Bits.{double-zeros}
-use Rattle.ion.specs.VarUInt.{groups, scanFrom}
-use Rattle.ion.specs.VarInt.{isNegative, signedCount, signFirst, signed, varint, ifShortest, unsign, readVarInt}
+use Rattle.ion.specs.Numbers.VarUInt.{groups, scanFrom}
+use Rattle.ion.specs.Numbers.VarInt.{isNegative, signedCount, signFirst, signed, varint, ifShortest, unsign, readVarInt}
 use Rattle.ion.specs.declared.VarUIntRead.{VarUIntRead}
 use Rattle.ion.specs.declared.VarUIntRead.the-variants as found
 use Rattle.ion.specs.declared.VarIntRead.the-variants.{Value, Cut, Bad}

@@ -16,7 +16,7 @@ use Rattle.places.specs.Places.{placesOn}
 use Rattle.places.proofs.Laws.{held, fewest, place-some, place-monotone, place-is}
 use Rattle.places.proofs.Below.{Below}
 use Rattle.places.proofs.Bits.{zeros-places}
-use Rattle.ion.specs.VarUInt.{groups, groupCount, varuint, scanFrom, zeroFirst, readVarUInt}
+use Rattle.ion.specs.Numbers.VarUInt.{groups, groupCount, varuint, scanFrom, zeroFirst, readVarUInt}
 use Rattle.ion.specs.declared.VarUIntRead.the-variants.{Value, Bad}
 use Rattle.binary.proofs.Groups.{groups-one, groups-more, length-groups, scan-groups, Scanned, scan-gives}
 

@@ -7,8 +7,8 @@ ghost use mathlib.Core.Path.{_≡_};
 ghost use Prim.Native.Nat.{_+_, _≤_};
 ghost use lib.Dec.{eqb};
 ghost use lib.ListN.{length};
-ghost use Rattle.ion.specs.Output.{put, wrote, Run};
-ghost use Rattle.ion.specs.Decimal.{decimalBytes};
+ghost use Rattle.ion.specs.Calls.Output.{put, wrote, Run};
+ghost use Rattle.ion.specs.Numbers.Decimal.{decimalBytes};
 
 // Zero with exponent 0, which has no bytes.
 fn is_zero(coefficient: u64, magnitude: u64) -> bool
@@ -46,7 +46,7 @@ pub fn encode_decimal(buf: &mut [u8], at: usize, coefficient: u64, exponent: i64
     ensures { λ r. ⌜ (r ≡ wrote (now (buf .entry)) at (decimalBytes coefficient exponent)) × (now (buf .exit) ≡ put (now (buf .entry)) at (decimalBytes coefficient exponent)) ⌝ }
 {
     let n = encoded_size_of(coefficient, exponent);
-    let answer = output::room(buf.len(), at, n);
+    let answer = output::room_for(buf.len(), at, n);
     if answer.number != 0 {
         return answer;
     }

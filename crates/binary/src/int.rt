@@ -6,9 +6,9 @@ ghost use mathlib.Core.Path.{_≡_};
 ghost use Prim.Native.Nat.{_+_, _≤_};
 ghost use lib.ListN.{length};
 ghost use Rattle.places.specs.Places.{plain, places};
-ghost use Rattle.ion.specs.Output.{over, put, wrote, Run};
-ghost use Rattle.ion.specs.Int.{intCount, int, readInt};
-ghost use Rattle.ion.specs.NumberReads.{intAnswer, intOf};
+ghost use Rattle.ion.specs.Calls.Output.{over, put, wrote, Run};
+ghost use Rattle.ion.specs.Numbers.Int.{intCount, int, readInt};
+ghost use Rattle.ion.specs.Numbers.NumberReads.{intAnswer, intOf};
 
 // The number of bytes of `value`, from its leading zeros.
 pub fn encoded_size_of(value: u64) -> usize
@@ -39,7 +39,7 @@ pub fn write_u64(buf: &mut [u8], at: usize, value: u64) -> Written
     ensures { λ r. ⌜ (r ≡ wrote (now (buf .entry)) at (int value)) × (now (buf .exit) ≡ put (now (buf .entry)) at (int value)) ⌝ }
 {
     let n = encoded_size_of(value);
-    let answer = output::room(buf.len(), at, n);
+    let answer = output::room_for(buf.len(), at, n);
     if answer.number != 0 {
         return answer;
     }

@@ -8,9 +8,9 @@ ghost use mathlib.Core.Bool.{true};
 ghost use Prim.Native.Nat.{_+_, _≤_};
 ghost use lib.IntN.{natAbs};
 ghost use lib.ListN.{length, drop};
-ghost use Rattle.ion.specs.Output.{over, put, wrote, Run};
-ghost use Rattle.ion.specs.VarInt.{isNegative, signedCount, signed, varint, readVarInt};
-ghost use Rattle.ion.specs.NumberReads.{varIntAnswer, varIntOf};
+ghost use Rattle.ion.specs.Calls.Output.{over, put, wrote, Run};
+ghost use Rattle.ion.specs.Numbers.VarInt.{isNegative, signedCount, signed, varint, readVarInt};
+ghost use Rattle.ion.specs.Numbers.NumberReads.{varIntAnswer, varIntOf};
 
 // A number by its sign and its size: negative zero is one of its own.
 pub struct Parts {
@@ -57,7 +57,7 @@ pub fn write_parts(buf: &mut [u8], at: usize, p: Parts) -> Written
     ensures { λ r. ⌜ (r ≡ wrote (now (buf .entry)) at (signed (p .negative) (p .magnitude))) × (now (buf .exit) ≡ put (now (buf .entry)) at (signed (p .negative) (p .magnitude))) ⌝ }
 {
     let n = encoded_size_of(p.magnitude);
-    let answer = output::room(buf.len(), at, n);
+    let answer = output::room_for(buf.len(), at, n);
     if answer.number != 0 {
         return answer;
     }

@@ -4,9 +4,9 @@ use ion::Written;
 ghost use mathlib.Core.Path.{_≡_};
 ghost use Prim.Native.Nat.{_+_, _-_, _*_, _%_, _^_, _≤_, _<_};
 ghost use lib.ListN.{length, drop};
-ghost use Rattle.ion.specs.Output.{over, put, wrote, Run};
-ghost use Rattle.ion.specs.VarUInt.{groups, groupCount, varuint, upTo, scanFrom, zeroFirst, readVarUInt};
-ghost use Rattle.ion.specs.NumberReads.{varUIntAnswer, varUIntOf};
+ghost use Rattle.ion.specs.Calls.Output.{over, put, wrote, Run};
+ghost use Rattle.ion.specs.Numbers.VarUInt.{groups, groupCount, varuint, upTo, scanFrom, zeroFirst, readVarUInt};
+ghost use Rattle.ion.specs.Numbers.NumberReads.{varUIntAnswer, varUIntOf};
 
 // The number of bytes of `value` as a VarUInt, from its leading zeros.
 pub fn encoded_size_of(value: u64) -> usize
@@ -40,7 +40,7 @@ pub fn write_u64(buf: &mut [u8], at: usize, value: u64) -> Written
     ensures { λ r. ⌜ (r ≡ wrote (now (buf .entry)) at (varuint value)) × (now (buf .exit) ≡ put (now (buf .entry)) at (varuint value)) ⌝ }
 {
     let n = encoded_size_of(value);
-    let answer = output::room(buf.len(), at, n);
+    let answer = output::room_for(buf.len(), at, n);
     if answer.number != 0 {
         return answer;
     }

@@ -6,9 +6,9 @@ use native.Mathlib.Omega.{arith}
 use lib.Dec.{leb}
 use lib.IntN.{ℤ, natAbs}
 use borrow.Author.Tests.{lt-ltb, le-ltb, lt-leb, ltb-false, leb-false, ltb-true, leb-true, le-leb, not-false}
-use Rattle.ion.specs.Offset.{WithinDay, isOffset}
-use Rattle.ion.specs.Build.{precisionNumber, ranges, outside, offsetIs, isYear}
-use Rattle.ion.specs.Accepted.{InBounds}
+use Rattle.ion.specs.Pair.Offset.{WithinDay, isOffset}
+use Rattle.ion.specs.Calls.Build.{precisionNumber, rangeChecks, offsetOutside, offsetGiven, isYear}
+use Rattle.ion.specs.Calls.Accepted.{InBounds}
 use Rattle.ion.specs.declared.BuilderFields.{BuilderFields}
 use Rattle.ion.specs.declared.BuilderOffset.{BuilderOffset}
 use Rattle.ion.specs.declared.BuilderOffset.the-variants.{Unknown, FromLocalFields, FromUtcFields}
@@ -22,17 +22,17 @@ offset-is z e = ltb-true (natAbs z) 1440 (not-false (isOffset z) e)
 is-offset : (z : ℤ) → natAbs z < 1440 → not (isOffset z) ≡ false
 is-offset z h = ap not (lt-ltb (natAbs z) 1440 h)
 
-within : (o : BuilderOffset) → outside o ≡ false → WithinDay (offsetIs o)
+within : (o : BuilderOffset) → offsetOutside o ≡ false → WithinDay (offsetGiven o)
 within Unknown e = tt
 within (FromLocalFields m) e = offset-is (m .0) e
 within (FromUtcFields m) e = offset-is (m .0) e
 
-not-outside : (o : BuilderOffset) → WithinDay (offsetIs o) → outside o ≡ false
+not-outside : (o : BuilderOffset) → WithinDay (offsetGiven o) → offsetOutside o ≡ false
 not-outside Unknown h = refl
 not-outside (FromLocalFields m) h = is-offset (m .0) h
 not-outside (FromUtcFields m) h = is-offset (m .0) h
 
-pub in-bounds : (f : BuilderFields) → AllPass (ranges f) → InBounds f
+pub in-bounds : (f : BuilderFields) → AllPass (rangeChecks f) → InBounds f
 in-bounds f (a, (y, (mo, (d, (h, (mi, (s, (n, (o, e))))))))) =
     record {
       attoseconds = leb-false (10 ^ 18) (f .attoseconds) a;
@@ -46,7 +46,7 @@ in-bounds f (a, (y, (mo, (d, (h, (mi, (s, (n, (o, e))))))))) =
       offset = within (f .offset) o;
     }
 
-pub bounds-pass : (f : BuilderFields) → InBounds f → AllPass (ranges f)
+pub bounds-pass : (f : BuilderFields) → InBounds f → AllPass (rangeChecks f)
 bounds-pass f b =
     let a = lt-leb (10 ^ 18) (f .attoseconds) (b .attoseconds) in
     let y = le-ltb 9999 (f .year) (b .year) in

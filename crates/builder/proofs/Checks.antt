@@ -5,7 +5,7 @@ use mathlib.Core.List.{List, [], _∷_, _++_}
 use Prim.Native.Nat.{ℕ}
 use native.Mathlib.Omega.{arith}
 use lib.Dec.{T, ltb, ltb→lt}
-use Rattle.ion.specs.Build.{firstOf}
+use Rattle.ion.specs.Calls.Build.{firstOf}
 
 -- every check passes
 abbrev pub AllPass : List (Bool × ℕ) → Type 0

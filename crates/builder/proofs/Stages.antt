@@ -3,11 +3,11 @@
 use mathlib.Core.Path.{_≡_, refl, sym, ap, subst}
 use Prim.Native.Nat.{ℕ, _%_, _^_, _<_}
 use native.Mathlib.Omega.{arith}
-use Rattle.ion.specs.Fraction.{scale}
-use Rattle.ion.specs.Build.{precisionNumber}
-use Rattle.ion.specs.Accepted.{Staged}
-use Rattle.ion.specs.Stages.{fieldsAre, withYear, withMonth, withDay, withHour, withHourAndMinute, withMinute, withSecond, withFraction, withOffset, Stage, hasYear, hasMonth, hasDay, hasHour, hasMinute, hasSeconds, hasFraction, hasOffset, Offsets, Gives}
-use Rattle.ion.specs.Stages as stages
+use Rattle.ion.specs.Pair.Fraction.{scale}
+use Rattle.ion.specs.Calls.Build.{precisionNumber}
+use Rattle.ion.specs.Calls.Accepted.{Staged}
+use Rattle.ion.specs.Calls.Stages.{builderFields, withYear, withMonth, withDay, withHour, withHourAndMinute, withMinute, withSecond, withFraction, withOffset, Stage, hasYear, hasMonth, hasDay, hasHour, hasMinute, hasSeconds, hasFraction, hasOffset, Offsets, Gives}
+use Rattle.ion.specs.Calls.Stages as stages
 use Rattle.ion.specs.declared.BuilderFields.{BuilderFields}
 use Rattle.ion.specs.declared.BuilderOffset.{BuilderOffset}
 use Rattle.ion.specs.declared.BuilderOffset.the-variants.{Unknown, FromLocalFields, FromUtcFields}
@@ -22,17 +22,17 @@ Cut a digits = a < 10 ^ 18 → a % scale digits ≡ 0
 
 -- the fields at a stage: those not given have their first values
 At : Stage → BuilderFields → Type 0
-At hasYear f = f ≡ fieldsAre Year Unknown (f .year) 1 1 0 0 0 0 0
-At hasMonth f = f ≡ fieldsAre Month Unknown (f .year) (f .month) 1 0 0 0 0 0
-At hasDay f = f ≡ fieldsAre Day Unknown (f .year) (f .month) (f .day) 0 0 0 0 0
-At hasHour f = f ≡ fieldsAre HourAndMinute Unknown (f .year) (f .month) (f .day) (f .hour) 0 0 0 0
-At hasMinute f = f ≡ fieldsAre HourAndMinute Unknown (f .year) (f .month) (f .day) (f .hour) (f .minute) 0 0 0
-At hasSeconds f = f ≡ fieldsAre Second Unknown (f .year) (f .month) (f .day) (f .hour) (f .minute) (f .second) 0 0
-At hasFraction f = (f ≡ fieldsAre Second Unknown (f .year) (f .month) (f .day) (f .hour) (f .minute) (f .second) (f .attoseconds) (f .digits)) × Cut (f .attoseconds) (f .digits)
+At hasYear f = f ≡ builderFields Year Unknown (f .year) 1 1 0 0 0 0 0
+At hasMonth f = f ≡ builderFields Month Unknown (f .year) (f .month) 1 0 0 0 0 0
+At hasDay f = f ≡ builderFields Day Unknown (f .year) (f .month) (f .day) 0 0 0 0 0
+At hasHour f = f ≡ builderFields HourAndMinute Unknown (f .year) (f .month) (f .day) (f .hour) 0 0 0 0
+At hasMinute f = f ≡ builderFields HourAndMinute Unknown (f .year) (f .month) (f .day) (f .hour) (f .minute) 0 0 0
+At hasSeconds f = f ≡ builderFields Second Unknown (f .year) (f .month) (f .day) (f .hour) (f .minute) (f .second) 0 0
+At hasFraction f = (f ≡ builderFields Second Unknown (f .year) (f .month) (f .day) (f .hour) (f .minute) (f .second) (f .attoseconds) (f .digits)) × Cut (f .attoseconds) (f .digits)
 At hasOffset f = Staged f
 
 -- fields to the minute, and to the second, with any offset
-to-minute : (o : BuilderOffset) (y mo d h mi : ℕ) → Staged (fieldsAre HourAndMinute o y mo d h mi 0 0 0)
+to-minute : (o : BuilderOffset) (y mo d h mi : ℕ) → Staged (builderFields HourAndMinute o y mo d h mi 0 0 0)
 to-minute o y mo d h mi =
     record {
       month = λ k. absurd (omega arith);
@@ -45,7 +45,7 @@ to-minute o y mo d h mi =
       multiple = λ k. refl;
     }
 
-to-second : (o : BuilderOffset) (y mo d h mi s a n : ℕ) → Cut a n → Staged (fieldsAre Second o y mo d h mi s a n)
+to-second : (o : BuilderOffset) (y mo d h mi s a n : ℕ) → Cut a n → Staged (builderFields Second o y mo d h mi s a n)
 to-second o y mo d h mi s a n c =
     record {
       month = λ k. absurd (omega arith);
@@ -83,7 +83,7 @@ at-stage (stages.fraction {x = x} g k) = (ap (λ (f : BuilderFields). withFracti
 at-stage (stages.local {f = f} o g m) = offset-staged f (FromLocalFields m) o (at-stage g)
 at-stage (stages.utc {f = f} o g m) = offset-staged f (FromUtcFields m) o (at-stage g)
 
-to-day : (p : TimestampPrecision) (y mo d : ℕ) → (precisionNumber p < 1 → mo ≡ 1) → (precisionNumber p < 2 → d ≡ 1) → Staged (fieldsAre p Unknown y mo d 0 0 0 0 0)
+to-day : (p : TimestampPrecision) (y mo d : ℕ) → (precisionNumber p < 1 → mo ≡ 1) → (precisionNumber p < 2 → d ≡ 1) → Staged (builderFields p Unknown y mo d 0 0 0 0 0)
 to-day p y mo d h k =
     record {
       month = h;
@@ -115,12 +115,12 @@ gives-staged {t} {f} g = staged-at t f (at-stage g)
 -- the last stage has every field that was given
 pub all-kept : (y mo d h mi s : ℕ) (x : Fraction) (o : BuilderOffset)
     → withOffset (withFraction (withSecond (withMinute (withHour (withDay (withMonth (withYear y) mo) d) h) mi) s) x) o
-    ≡ fieldsAre Second o y mo d h mi s (x .attoseconds) (x .digits)
+    ≡ builderFields Second o y mo d h mi s (x .attoseconds) (x .digits)
 all-kept y mo d h mi s x o = refl
 
 -- an hour without its minute is minute 0, at the same precision
 pub hour-alone : (y mo d h : ℕ) (o : BuilderOffset)
-    → withOffset (withHour (withDay (withMonth (withYear y) mo) d) h) o ≡ fieldsAre HourAndMinute o y mo d h 0 0 0 0
+    → withOffset (withHour (withDay (withMonth (withYear y) mo) d) h) o ≡ builderFields HourAndMinute o y mo d h 0 0 0 0
 hour-alone y mo d h o = refl
 
 -- an hour and a minute at once are one after the other

@@ -4,11 +4,11 @@ use mathlib.Core.Bool.{true}
 use Prim.Native.Nat.{_≤_}
 use native.Mathlib.Omega.{arith}
 use borrow.Author.Tests.{not-false}
-use Rattle.ion.specs.Shift.{IsDateTime, dateOf}
-use Rattle.ion.specs.Offset.{WithinDay}
-use Rattle.ion.specs.Word.{InRange}
-use Rattle.ion.specs.Build.{precisionNumber, isYear, isDay, offsetIs, routeChecks, localChecks, givenTime, movedTime, localTime, packedOf}
-use Rattle.ion.specs.Accepted.{InBounds, Staged}
+use Rattle.ion.specs.Calendar.Shift.{IsDateTime, dateOf}
+use Rattle.ion.specs.Pair.Offset.{WithinDay}
+use Rattle.ion.specs.Pair.Word.{InRange}
+use Rattle.ion.specs.Calls.Build.{precisionNumber, isYear, isDay, offsetGiven, routeChecks, localChecks, givenTime, movedTime, localTime, packedOf}
+use Rattle.ion.specs.Calls.Accepted.{InBounds, Staged}
 use Rattle.ion.specs.declared.DateTime.{DateTime}
 use Rattle.ion.specs.declared.BuilderFields.{BuilderFields}
 use Rattle.ion.specs.declared.BuilderOffset.{BuilderOffset}
@@ -18,7 +18,7 @@ use Rattle.ion.specs.declared.offset.Offset.{Offset}
 use Rattle.ion.proofs.Offsets.{raw-lt}
 use Rattle.calendar.proofs.Dates.{is-date, first-day-is, month-of, day-of}
 use Rattle.calendar.proofs.Shifts.{shifted-is}
-use Rattle.calendar.proofs.Room.{moved-room}
+use Rattle.calendar.proofs.FirstDay.{moved-room}
 use Rattle.builder.proofs.Checks.{AllPass}
 use Rattle.builder.proofs.Bounds.{precision-le, year-is}
 
@@ -41,18 +41,18 @@ time-in-range f t o b p y w =
     omega (arith, month-of (dateOf t) (p .date), day-of (dateOf t) (p .date), p .hours, p .minutes, b .second, b .digits, precision-le (f .precision), raw-lt o w)
 
 -- a date and a time in a year from 1 to 9999
-pub record IsLocal (t : DateTime) : Type 0 where
+pub record IsLocalTime (t : DateTime) : Type 0 where
   pub time : IsDateTime t
   pub from-year : 1 ≤ t .year
   pub to-year : t .year ≤ 9999
 
-given-is : (f : BuilderFields) → InBounds f → AllPass (localChecks f) → IsLocal (givenTime f)
+given-is : (f : BuilderFields) → InBounds f → AllPass (localChecks f) → IsLocalTime (givenTime f)
 given-is f b h =
     let y = year-is (f .year) (not-false (isYear (f .year)) (h .0)) in
     record { time = time-is f b (not-false (isDay f) (h .1 .0)); from-year = y .0; to-year = y .1 }
 
 -- the local time, on either route
-pub local-is : (f : BuilderFields) (o : BuilderOffset) → InBounds f → WithinDay (offsetIs o) → AllPass (routeChecks f o) → IsLocal (localTime f o)
+pub local-is : (f : BuilderFields) (o : BuilderOffset) → InBounds f → WithinDay (offsetGiven o) → AllPass (routeChecks f o) → IsLocalTime (localTime f o)
 local-is f Unknown b w h = given-is f b h
 local-is f (FromLocalFields m) b w h = given-is f b h
 local-is f (FromUtcFields m) b w h =

@@ -8,9 +8,9 @@ use ion::TimestampPrecision;
 use ion::offset;
 use ion::offset::Offset;
 ghost use mathlib.Core.Path.{_≡_};
-ghost use Rattle.ion.specs.Offset.{WithinDay};
-ghost use Rattle.ion.specs.Word.{InRange};
-ghost use Rattle.ion.specs.Build.{precisionNumber, packedOf, pairAt, accepted};
+ghost use Rattle.ion.specs.Pair.Offset.{WithinDay};
+ghost use Rattle.ion.specs.Pair.Word.{InRange};
+ghost use Rattle.ion.specs.Calls.Build.{precisionNumber, packedOf, pairAt, acceptedBuild};
 
 fn precision_number(p: TimestampPrecision) -> u32
     ensures { λ r. ⌜ r ≡ precisionNumber p ⌝ }
@@ -27,7 +27,7 @@ fn precision_number(p: TimestampPrecision) -> u32
 // The packed pair of the local fields.
 pub(crate) fn finish(f: BuilderFields, local: DateTime, o: Offset) -> Built
     requires { ⌜ WithinDay o × InRange (packedOf f local o) ⌝ }
-    ensures { λ r. ⌜ r ≡ accepted (pairAt f local o) ⌝ }
+    ensures { λ r. ⌜ r ≡ acceptedBuild (pairAt f local o) ⌝ }
 {
     let precision = f.precision;
     let fields = Fields {

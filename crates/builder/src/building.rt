@@ -1,6 +1,6 @@
 // The builder: the checks 1 to 9 in their order, then the route of the fields.
-use crate::local_route::build_local;
-use crate::utc_route::build_utc;
+use crate::local_route::from_fields;
+use crate::utc_route::from_utc_fields;
 use ion::BuilderFields;
 use ion::BuilderOffset;
 use ion::Built;
@@ -9,11 +9,11 @@ use ion::offset;
 use ion::offset::Offset;
 use ion::refusal;
 ghost use mathlib.Core.Path.{_≡_};
-ghost use Rattle.ion.specs.Build.{offsetIs, isUtc, outside, firstOf, ranges, buildOf};
+ghost use Rattle.ion.specs.Calls.Build.{offsetGiven, isUtc, offsetOutside, firstOf, rangeChecks, buildOf};
 
 // Whether an offset is known and a day or more.
-fn is_outside(f: BuilderFields) -> bool
-    ensures { λ r. ⌜ r ≡ outside (f .offset) ⌝ }
+fn offset_outside(f: BuilderFields) -> bool
+    ensures { λ r. ⌜ r ≡ offsetOutside (f .offset) ⌝ }
 {
     let o = f.offset;
     match o {
@@ -24,8 +24,8 @@ fn is_outside(f: BuilderFields) -> bool
 }
 
 // The offset of a timestamp that is built.
-fn offset_is(f: BuilderFields) -> Offset
-    ensures { λ r. ⌜ r ≡ offsetIs (f .offset) ⌝ }
+fn offset_given(f: BuilderFields) -> Offset
+    ensures { λ r. ⌜ r ≡ offsetGiven (f .offset) ⌝ }
 {
     let o = f.offset;
     match o {
@@ -48,8 +48,8 @@ fn is_utc(f: BuilderFields) -> bool
 }
 
 // The checks 1 to 9: the number of the first that fails, or 0.
-fn check_ranges(f: BuilderFields) -> u32
-    ensures { λ r. ⌜ r ≡ firstOf (ranges f) ⌝ }
+fn validate_field_ranges(f: BuilderFields) -> u32
+    ensures { λ r. ⌜ r ≡ firstOf (rangeChecks f) ⌝ }
 {
     let attoseconds = f.attoseconds;
     let year = f.year;
@@ -83,7 +83,7 @@ fn check_ranges(f: BuilderFields) -> u32
     if 18 < digits {
         return refusal::DIGITS;
     }
-    if is_outside(f) {
+    if offset_outside(f) {
         return refusal::OFFSET;
     }
     0
@@ -94,13 +94,13 @@ fn check_ranges(f: BuilderFields) -> u32
 pub(crate) fn build(f: BuilderFields) -> Built
     ensures { λ r. ⌜ r ≡ buildOf f ⌝ }
 {
-    let n = check_ranges(f);
+    let n = validate_field_ranges(f);
     if n != 0 {
         return Built::refused(n);
     }
-    let o = offset_is(f);
+    let o = offset_given(f);
     if is_utc(f) {
-        return build_utc(f, offset::minutes_of(o));
+        return from_utc_fields(f, offset::minutes_of(o));
     }
-    build_local(f, o)
+    from_fields(f, o)
 }

@@ -1,6 +1,6 @@
 // Months and days counted from 0.
 ghost use mathlib.Core.Path.{_≡_};
-ghost use Rattle.ion.specs.Stages.{fromZero};
+ghost use Rattle.ion.specs.Calls.Stages.{fromZero};
 
 // The same counted from 1; the largest number, which no check takes, stays.
 pub(crate) fn from_zero(n: u32) -> u32

@@ -3,8 +3,8 @@ use crate::building::build;
 use ion::BuilderFields;
 use ion::Built;
 ghost use mathlib.Core.Path.{_≡_};
-ghost use Rattle.ion.specs.Accepted.{Staged};
-ghost use Rattle.ion.specs.Build.{buildOf};
+ghost use Rattle.ion.specs.Calls.Accepted.{Staged};
+ghost use Rattle.ion.specs.Calls.Build.{buildOf};
 
 pub fn build_fields(f: BuilderFields) -> Built
     requires { ⌜ Staged f ⌝ }

@@ -8,8 +8,8 @@ use ion::BuilderFields;
 use ion::Built;
 use ion::TimestampPrecision;
 ghost use mathlib.Core.Path.{_≡_};
-ghost use Rattle.ion.specs.Build.{buildOf};
-ghost use Rattle.ion.specs.Stages.{withHour, withHourAndMinute, withSecond};
+ghost use Rattle.ion.specs.Calls.Build.{buildOf};
+ghost use Rattle.ion.specs.Calls.Stages.{withHour, withHourAndMinute, withSecond};
 
 impl HasDay {
     pub fn with_hour(self, hour: u32) -> HasHour

@@ -10,9 +10,9 @@ use ion::BuilderOffset;
 use ion::Built;
 use ion::TimestampPrecision;
 ghost use mathlib.Core.Path.{_≡_};
-ghost use Rattle.ion.specs.Offset.{minutesIs};
-ghost use Rattle.ion.specs.Build.{buildOf};
-ghost use Rattle.ion.specs.Stages.{withMinute, withOffset};
+ghost use Rattle.ion.specs.Pair.Offset.{offsetMinutes};
+ghost use Rattle.ion.specs.Calls.Build.{buildOf};
+ghost use Rattle.ion.specs.Calls.Stages.{withMinute, withOffset};
 
 impl HasHour {
     pub fn with_minute(self, minute: u32) -> HasMinute
@@ -29,13 +29,13 @@ impl HasHour {
     }
 
     pub fn with_offset(self, minutes: i32) -> HasOffset
-        ensures { λ r. ⌜ r .fields ≡ withOffset (self .fields) (BuilderOffset.FromLocalFields (minutesIs minutes)) ⌝ }
+        ensures { λ r. ⌜ r .fields ≡ withOffset (self .fields) (BuilderOffset.FromLocalFields (offsetMinutes minutes)) ⌝ }
     {
         from_local(self.fields, minutes)
     }
 
     pub fn localize_to_offset(self, minutes: i32) -> HasOffset
-        ensures { λ r. ⌜ r .fields ≡ withOffset (self .fields) (BuilderOffset.FromUtcFields (minutesIs minutes)) ⌝ }
+        ensures { λ r. ⌜ r .fields ≡ withOffset (self .fields) (BuilderOffset.FromUtcFields (offsetMinutes minutes)) ⌝ }
     {
         from_utc(self.fields, minutes)
     }

@@ -7,8 +7,8 @@ use ion::BuilderFields;
 use ion::Built;
 use ion::TimestampPrecision;
 ghost use mathlib.Core.Path.{_≡_};
-ghost use Rattle.ion.specs.Build.{buildOf};
-ghost use Rattle.ion.specs.Stages.{fromZero, withDay};
+ghost use Rattle.ion.specs.Calls.Build.{buildOf};
+ghost use Rattle.ion.specs.Calls.Stages.{fromZero, withDay};
 
 impl HasMonth {
     pub fn with_day(self, day: u32) -> HasDay

@@ -3,7 +3,7 @@ use crate::HasOffset;
 use crate::building::build;
 use ion::Built;
 ghost use mathlib.Core.Path.{_≡_};
-ghost use Rattle.ion.specs.Build.{buildOf};
+ghost use Rattle.ion.specs.Calls.Build.{buildOf};
 
 impl HasOffset {
     pub fn build(self) -> Built

@@ -11,10 +11,10 @@ use ion::Built;
 use ion::Decimal;
 use ion::Fraction;
 ghost use mathlib.Core.Path.{_≡_};
-ghost use Rattle.ion.specs.Offset.{minutesIs};
-ghost use Rattle.ion.specs.Fraction.{milliseconds, microseconds, nanoseconds, nanosecondsTo, decimal};
-ghost use Rattle.ion.specs.Build.{buildOf};
-ghost use Rattle.ion.specs.Stages.{withFraction, withOffset};
+ghost use Rattle.ion.specs.Pair.Offset.{offsetMinutes};
+ghost use Rattle.ion.specs.Pair.Fraction.{milliseconds, microseconds, nanoseconds, nanosecondsTo, decimal};
+ghost use Rattle.ion.specs.Calls.Build.{buildOf};
+ghost use Rattle.ion.specs.Calls.Stages.{withFraction, withOffset};
 
 fn with_fraction(fields: BuilderFields, x: Fraction) -> HasFractionalSeconds
     ensures { λ r. ⌜ r .fields ≡ withFraction fields x ⌝ }
@@ -64,13 +64,13 @@ impl HasSeconds {
     }
 
     pub fn with_offset(self, minutes: i32) -> HasOffset
-        ensures { λ r. ⌜ r .fields ≡ withOffset (self .fields) (BuilderOffset.FromLocalFields (minutesIs minutes)) ⌝ }
+        ensures { λ r. ⌜ r .fields ≡ withOffset (self .fields) (BuilderOffset.FromLocalFields (offsetMinutes minutes)) ⌝ }
     {
         from_local(self.fields, minutes)
     }
 
     pub fn localize_to_offset(self, minutes: i32) -> HasOffset
-        ensures { λ r. ⌜ r .fields ≡ withOffset (self .fields) (BuilderOffset.FromUtcFields (minutesIs minutes)) ⌝ }
+        ensures { λ r. ⌜ r .fields ≡ withOffset (self .fields) (BuilderOffset.FromUtcFields (offsetMinutes minutes)) ⌝ }
     {
         from_utc(self.fields, minutes)
     }

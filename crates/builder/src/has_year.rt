@@ -7,8 +7,8 @@ use ion::BuilderFields;
 use ion::Built;
 use ion::TimestampPrecision;
 ghost use mathlib.Core.Path.{_≡_};
-ghost use Rattle.ion.specs.Build.{buildOf};
-ghost use Rattle.ion.specs.Stages.{fromZero, withMonth};
+ghost use Rattle.ion.specs.Calls.Build.{buildOf};
+ghost use Rattle.ion.specs.Calls.Stages.{fromZero, withMonth};
 
 impl HasYear {
     pub fn with_month(self, month: u32) -> HasMonth

@@ -21,7 +21,7 @@ use ion::BuilderFields;
 use ion::BuilderOffset;
 use ion::TimestampPrecision;
 ghost use mathlib.Core.Path.{_≡_};
-ghost use Rattle.ion.specs.Stages.{withYear, withMonth, withDay};
+ghost use Rattle.ion.specs.Calls.Stages.{withYear, withMonth, withDay};
 
 pub struct HasYear {
     fields: BuilderFields,

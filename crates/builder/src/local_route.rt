@@ -7,9 +7,9 @@ use ion::DateTime;
 use ion::offset::Offset;
 use ion::refusal;
 ghost use mathlib.Core.Path.{_≡_};
-ghost use Rattle.ion.specs.Offset.{WithinDay};
-ghost use Rattle.ion.specs.Build.{firstOf, isDay, isYear, givenTime, localChecks, pairAt, answer};
-ghost use Rattle.ion.specs.Accepted.{InBounds};
+ghost use Rattle.ion.specs.Pair.Offset.{WithinDay};
+ghost use Rattle.ion.specs.Calls.Build.{firstOf, isDay, isYear, givenTime, localChecks, pairAt, buildAnswer};
+ghost use Rattle.ion.specs.Calls.Accepted.{InBounds};
 
 pub(crate) fn is_day(f: BuilderFields) -> bool
     ensures { λ r. ⌜ r ≡ isDay f ⌝ }
@@ -39,9 +39,9 @@ pub(crate) fn given_time(f: BuilderFields) -> DateTime
     }
 }
 
-pub(crate) fn build_local(f: BuilderFields, o: Offset) -> Built
+pub(crate) fn from_fields(f: BuilderFields, o: Offset) -> Built
     requires { ⌜ InBounds f × WithinDay o ⌝ }
-    ensures { λ r. ⌜ r ≡ answer (firstOf (localChecks f)) (pairAt f (givenTime f) o) ⌝ }
+    ensures { λ r. ⌜ r ≡ buildAnswer (firstOf (localChecks f)) (pairAt f (givenTime f) o) ⌝ }
 {
     let year = is_year(f.year);
     let day = is_day(f);

@@ -9,13 +9,13 @@ use ion::offset::Offset;
 use ion::offset::OffsetMinutes;
 use ion::refusal;
 ghost use mathlib.Core.Path.{_≡_};
-ghost use Rattle.ion.specs.Offset.{WithinDay};
-ghost use Rattle.ion.specs.Build.{firstOf, movedTime, utcChecks, pairAt, answer};
-ghost use Rattle.ion.specs.Accepted.{InBounds};
+ghost use Rattle.ion.specs.Pair.Offset.{WithinDay};
+ghost use Rattle.ion.specs.Calls.Build.{firstOf, movedTime, utcChecks, pairAt, buildAnswer};
+ghost use Rattle.ion.specs.Calls.Accepted.{InBounds};
 
-pub(crate) fn build_utc(f: BuilderFields, m: OffsetMinutes) -> Built
+pub(crate) fn from_utc_fields(f: BuilderFields, m: OffsetMinutes) -> Built
     requires { ⌜ InBounds f × WithinDay (Offset.Known m) ⌝ }
-    ensures { λ r. ⌜ r ≡ answer (firstOf (utcChecks f m)) (pairAt f (movedTime f m) (Offset.Known m)) ⌝ }
+    ensures { λ r. ⌜ r ≡ buildAnswer (firstOf (utcChecks f m)) (pairAt f (movedTime f m) (Offset.Known m)) ⌝ }
 {
     if !is_day(f) {
         return Built::refused(refusal::NO_DAY);

@@ -6,7 +6,7 @@ use native.Mathlib.Decide.{decLt}
 use native.Mathlib.Omega.{arith}
 use lib.Dec.{lit≤}
 use borrow.Author.Tests.{lt-ltb, le-ltb}
-use Rattle.ion.specs.Calendar.{isLeap, monthLength, yearLength, sumBelow, yearStart, monthStart, dayNumber, IsDate, nextDay, prevDay}
+use Rattle.ion.specs.Calendar.Dates.{isLeap, monthLength, yearLength, sumBelow, yearStart, monthStart, dayNumber, IsDate, nextDay, prevDay}
 use Rattle.ion.specs.declared.Date.{Date}
 use Rattle.calendar.proofs.Sums.{sum-more}
 use Rattle.calendar.proofs.Months.{month-least, december, january, months-year}

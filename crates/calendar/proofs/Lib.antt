@@ -5,4 +5,4 @@ pub mod Months
 pub mod Dates
 pub mod Days
 pub mod Shifts
-pub mod Room
+pub mod FirstDay

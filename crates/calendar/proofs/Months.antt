@@ -11,7 +11,7 @@ use lib.Dec.{T, eqb, leb, ltb, eqb→eq, leb→le}
 use lib.ListN.{length, getD, List·getD-eq-default}
 use borrow.Author.Tests.{lt-ltb, le-ltb, ne-eqb}
 use Rattle.places.proofs.Table.{every, at}
-use Rattle.ion.specs.Calendar.{leapDay, monthLengths, monthLengthOf, sumBelow}
+use Rattle.ion.specs.Calendar.Dates.{leapDay, monthLengths, monthLengthOf, sumBelow}
 use Rattle.calendar.proofs.Sums.{sum-past}
 
 -- ---- what a table says of each month

@@ -7,8 +7,8 @@ use lib.Dec.{lit<}
 use lib.IntN.{ℤ, pos, negsuc, natAbs, negℤ, _+ℤ_, negℤ-negℤ}
 use Rattle.integers.specs.Floor.{floorDiv, _plus_}
 use Rattle.integers.proofs.Parts.{up, down, apart, add-parts, floor-parts, floor-mod-lt, plus-parts, neg-parts, natAbs-parts, parts-eq}
-use Rattle.ion.specs.Calendar.{dayNumber, IsDate, nextDay, prevDay, yearLength}
-use Rattle.ion.specs.Shift.{dateOf, IsDateTime, minuteNumber, repeat, addDays, shifted}
+use Rattle.ion.specs.Calendar.Dates.{dayNumber, IsDate, nextDay, prevDay, yearLength}
+use Rattle.ion.specs.Calendar.Shift.{dateOf, IsDateTime, minuteNumber, repeat, addDays, shifted}
 use Rattle.ion.specs.declared.Date.{Date}
 use Rattle.ion.specs.declared.DateTime.{DateTime}
 use Rattle.calendar.proofs.Sums.{sum-past}

@@ -6,7 +6,7 @@ use native.Mathlib.Nat.{le-refl, add-div-right, div-add-mod', mod-lt, add-zero}
 use native.Mathlib.Omega.{arith}
 use lib.Arith.{digits-div}
 use lib.Dec.{eqb, eqb·suc-zero, lit<}
-use Rattle.ion.specs.Calendar.{isLeap, leapDay, sumBelow, yearStart}
+use Rattle.ion.specs.Calendar.Dates.{isLeap, leapDay, sumBelow, yearStart}
 
 -- one more to the quotient rounded up, where the divisor divides
 ceil-step : (k y : ℕ) → 0 < k → (suc y + (k - 1)) / k ≡ (y + (k - 1)) / k + leapDay (eqb (y % k) 0)

@@ -1,7 +1,7 @@
 // The number of a day, counted from 0000-01-01, and the days after and before it.
 ghost use mathlib.Core.Path.{_≡_};
 ghost use Prim.Native.Nat.{_≤_};
-ghost use Rattle.ion.specs.Calendar.{IsDate, yearStart, monthStart, dayNumber, nextDay, prevDay};
+ghost use Rattle.ion.specs.Calendar.Dates.{IsDate, yearStart, monthStart, dayNumber, nextDay, prevDay};
 use crate::month::is_leap;
 use crate::month::month_length;
 use ion::Date;

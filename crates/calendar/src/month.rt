@@ -1,6 +1,6 @@
 // Leap years, the lengths of months, and the days that there are.
 ghost use mathlib.Core.Path.{_≡_};
-ghost use Rattle.ion.specs.Calendar.{isLeap, monthLength, daysInMonth, isDate};
+ghost use Rattle.ion.specs.Calendar.Dates.{isLeap, monthLength, daysInMonth, isDate};
 use ion::Date;
 
 pub fn is_leap(year: u32) -> bool

@@ -6,9 +6,9 @@ use native.Mathlib.Decide.{decLe, ℕ-discrete}
 use native.Mathlib.Omega.{arith}
 use lib.Dec.{lit<}
 use lib.IntN.{ℤ, pos, negsuc}
-use Rattle.ion.specs.Fraction.{scale, capped, digitsOf, attosecondsOf}
+use Rattle.ion.specs.Pair.Fraction.{scale, capped, digitsOf, attosecondsOf}
 use Rattle.fraction.proofs.Scales.{power-pos, whole}
-use Rattle.fraction.proofs.Caps.{cap-high}
+use Rattle.fraction.proofs.Capped.{cap-high}
 use Rattle.fraction.proofs.Quotients.{up-to, none-left}
 
 -- a 64-bit coefficient has fewer attoseconds than 10^38

@@ -7,11 +7,11 @@ use lib.IntN.{ℤ, pos, negsuc, _+ℤ_, _-ℤ_}
 use lib.Signed.{ltZ}
 use mir.Syntax.{w64}
 use mir.Val.{SFits}
-use Rattle.integers.proofs.Parts.{Gives, apart, add-parts, sub-parts, lt-parts, ge-parts, parts-fit, fit-parts, gives-fits}
-use Rattle.ion.specs.Fraction.{digitsOf}
+use Rattle.integers.proofs.Parts.{IsNatural, apart, add-parts, sub-parts, lt-parts, ge-parts, parts-fit, fit-parts, natural-fits}
+use Rattle.ion.specs.Pair.Fraction.{digitsOf}
 
 -- minus an exponent below 0, less 1
-pub less-one : (z : ℤ) → ltZ z (pos 0) ≡ true → Gives (pos 0 -ℤ (z +ℤ pos 1)) (digitsOf z - 1)
+pub less-one : (z : ℤ) → ltZ z (pos 0) ≡ true → IsNatural (pos 0 -ℤ (z +ℤ pos 1)) (digitsOf z - 1)
 less-one (pos n) h = absurd (omega (arith, lt-parts (pos n) (pos 0) h))
 less-one (negsuc n) h =
     let s = negsuc n +ℤ pos 1 in
@@ -31,7 +31,7 @@ plus-fits z h f =
     parts-fit w64 s (omega (arith, apart s, apart z)) (omega (arith, apart s, apart z))
 
 pub minus-fits : (z : ℤ) → ltZ z (pos 0) ≡ true → SFits w64 z → SFits w64 (pos 0 -ℤ (z +ℤ pos 1))
-minus-fits z h f = gives-fits w64 (less-one z h) (omega (arith, some-digit z h f))
+minus-fits z h f = natural-fits w64 (less-one z h) (omega (arith, some-digit z h f))
 
 -- an exponent of 0 or more has no digits
 pub no-digit : (z : ℤ) → ltZ z (pos 0) ≡ false → 0 ≡ digitsOf z

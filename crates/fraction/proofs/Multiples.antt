@@ -6,12 +6,12 @@ use native.Mathlib.Nat.{mul-mod-left, mod-one}
 use native.Mathlib.Decide.{decLe}
 use native.Mathlib.Omega.{arith}
 use lib.Dec.{lit≤}
-use Rattle.ion.specs.Fraction.{scale, capped, attosecondsOf, belowZero, digitsOf}
-use Rattle.ion.specs.Stages.{Fractions}
-use Rattle.ion.specs.Stages as stages
+use Rattle.ion.specs.Pair.Fraction.{scale, capped, attosecondsOf, belowZero, digitsOf}
+use Rattle.ion.specs.Calls.Stages.{Fractions}
+use Rattle.ion.specs.Calls.Stages as stages
 use Rattle.ion.specs.declared.Fraction.{Fraction}
 use Rattle.fraction.proofs.Scales.{cut-multiple}
-use Rattle.fraction.proofs.Caps.{cap-high, cap-multiple}
+use Rattle.fraction.proofs.Capped.{cap-high, cap-multiple}
 use Rattle.fraction.proofs.Quotients.{up-to}
 
 -- past the eighteenth digit the unit is 1, of which every number is a multiple

@@ -6,7 +6,7 @@ use native.Mathlib.Decide.{decLe}
 use native.Mathlib.Omega.{arith}
 use lib.Dec.{lit<}
 use lib.Pow.{pow-add}
-use Rattle.ion.specs.Fraction.{scale, attosecondsOf}
+use Rattle.ion.specs.Pair.Fraction.{scale, attosecondsOf}
 use Rattle.fraction.proofs.Scales.{power-pos}
 
 -- up to eighteen digits it is multiplied instead

@@ -9,7 +9,7 @@ use lib.Dec.{T, eqb, eqb→eq, lit<}
 use lib.ListN.{length, getD}
 use lib.Pow.{pow-add}
 use Rattle.places.proofs.Table.{every, at}
-use Rattle.ion.specs.Fraction.{scale, cutTo}
+use Rattle.ion.specs.Pair.Fraction.{scale, cutTo}
 
 abbrev isPower : ℕ → ℕ → Bool
 isPower k x = eqb x (10 ^ k)

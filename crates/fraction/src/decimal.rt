@@ -7,7 +7,7 @@ use ion::Fraction;
 use ion::MAX_ATTOSECONDS;
 ghost use mathlib.Core.Path.{_≡_};
 ghost use Prim.Native.Nat.{_/_, _^_, min};
-ghost use Rattle.ion.specs.Fraction.{capped, digitsOf, attosecondsOf, belowZero, decimal};
+ghost use Rattle.ion.specs.Pair.Fraction.{capped, digitsOf, attosecondsOf, belowZero, decimal};
 
 // Minus the exponent, or 0 where that is 0 or more: the lowest exponent has no negative of 64 bits.
 fn digits_of(exponent: i64) -> u64

@@ -2,7 +2,7 @@
 use ion::MAX_ATTOSECONDS;
 ghost use mathlib.Core.Path.{_≡_};
 ghost use Prim.Native.Nat.{_^_, min};
-ghost use Rattle.ion.specs.Fraction.{scale, cutTo};
+ghost use Rattle.ion.specs.Pair.Fraction.{scale, cutTo};
 
 // The attoseconds of a nanosecond.
 pub(crate) const NANOSECOND: u64 = 1_000_000_000;

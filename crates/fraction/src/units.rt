@@ -7,7 +7,7 @@ use ion::Fraction;
 use ion::MAX_ATTOSECONDS;
 ghost use mathlib.Core.Path.{_≡_};
 ghost use Prim.Native.Nat.{_*_};
-ghost use Rattle.ion.specs.Fraction.{scale, capped, fractionIs, milliseconds, microseconds, nanoseconds, nanosecondsTo};
+ghost use Rattle.ion.specs.Pair.Fraction.{scale, capped, cappedFraction, milliseconds, microseconds, nanoseconds, nanosecondsTo};
 
 // 10^18 for a second or more.
 pub(crate) fn cap(attoseconds: u64) -> u64
@@ -30,7 +30,7 @@ pub(crate) fn scaled(n: u64, digits: u64) -> u64
 }
 
 fn units(n: u32, digits: u64) -> Fraction
-    ensures { λ r. ⌜ r ≡ fractionIs (n * scale digits) digits ⌝ }
+    ensures { λ r. ⌜ r ≡ cappedFraction (n * scale digits) digits ⌝ }
 {
     Fraction {
         attoseconds: scaled(n as u64, digits),

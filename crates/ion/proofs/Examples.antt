@@ -6,27 +6,27 @@ use mathlib.Core.List.{List, [], _∷_, _++_, map}
 use mathlib.Core.Path.{_≡_, refl}
 use lib.IntN.{ℤ, pos, negsuc}
 use Rattle.places.specs.Places.{placesOn, places, countIn, count, placeCount, valueFrom}
-use Rattle.ion.specs.Ascii.{ascii}
-use Rattle.ion.specs.VarUInt.{groups, varuint, scanFrom, readVarUInt}
-use Rattle.ion.specs.VarInt.{signedCount, signed, varint, readVarInt}
-use Rattle.ion.specs.Int.{intCount, int, readInt}
-use Rattle.ion.specs.Decimal.{decimalBytes}
-use Rattle.ion.specs.Padded.{padded}
-use Rattle.ion.specs.Calendar.{isLeap, monthLengthOf, sumBelow}
-use Rattle.ion.specs.Offset.{minutesIs}
-use Rattle.ion.specs.Word.{wordOf, fieldsOf}
-use Rattle.ion.specs.Pair.{wordIn, pairIs}
-use Rattle.ion.specs.Fraction.{capped, milliseconds, nanoseconds}
-use Rattle.ion.specs.Build.{numberOf, pairOf, buildOf}
-use Rattle.ion.specs.Stages.{withYear, withMonth, withDay, withHourAndMinute, withSecond, withFraction, withOffset}
-use Rattle.ion.specs.Check.{checkOf}
-use Rattle.ion.specs.Utc.{utcFields}
-use Rattle.ion.specs.Count.{countOf}
-use Rattle.ion.specs.Order.{cmpOf, eqOf, distanceOf}
-use Rattle.ion.specs.Text.{marked, fractionText, clockText, minutesText, offsetText, fieldsText, textOf}
-use Rattle.ion.specs.Value.{offsetBytes, varuints, fieldCount, fractionBytes, bodyFrom, bodyOf, header, valueOf}
-use Rattle.ion.specs.Decode.{decodeOffset, decodeFields, decodeFraction, filled, precisionWith, decodeBody, pairFrom}
-use Rattle.ion.specs.ReadValue.{same, isBodyOf, readBody, readAfter, readLength, readOf}
+use Rattle.ion.specs.Text.Ascii.{ascii}
+use Rattle.ion.specs.Numbers.VarUInt.{groups, varuint, scanFrom, readVarUInt}
+use Rattle.ion.specs.Numbers.VarInt.{signedCount, signed, varint, readVarInt}
+use Rattle.ion.specs.Numbers.Int.{intCount, int, readInt}
+use Rattle.ion.specs.Numbers.Decimal.{decimalBytes}
+use Rattle.ion.specs.Numbers.Padded.{padded}
+use Rattle.ion.specs.Calendar.Dates.{isLeap, monthLengthOf, sumBelow}
+use Rattle.ion.specs.Pair.Offset.{offsetMinutes}
+use Rattle.ion.specs.Pair.Word.{wordOf, fieldsOf}
+use Rattle.ion.specs.Pair.Pair.{wordIn, packedPair}
+use Rattle.ion.specs.Pair.Fraction.{capped, milliseconds, nanoseconds}
+use Rattle.ion.specs.Calls.Build.{buildNumber, buildPair, buildOf}
+use Rattle.ion.specs.Calls.Stages.{withYear, withMonth, withDay, withHourAndMinute, withSecond, withFraction, withOffset}
+use Rattle.ion.specs.Calls.Check.{checkOf}
+use Rattle.ion.specs.Calls.Utc.{utcFields}
+use Rattle.ion.specs.Pair.Count.{countOf}
+use Rattle.ion.specs.Calls.Order.{cmpOf, eqOf, distanceOf}
+use Rattle.ion.specs.Text.Format.{marked, fractionText, clockText, minutesText, offsetText, fieldsText, textOf}
+use Rattle.ion.specs.Value.Encode.{offsetBytes, varuints, fieldCount, fractionBytes, bodyFrom, bodyOf, header, valueOf}
+use Rattle.ion.specs.Value.Decode.{decodeOffset, decodeFields, decodeFraction, filled, precisionWith, decodeBody, pairFrom}
+use Rattle.ion.specs.Value.ReadValue.{same, isBodyOf, readBody, readAfter, readLength, readValue}
 use Rattle.ion.specs.declared.BuilderFields.{BuilderFields}
 use Rattle.ion.specs.declared.BuilderOffset.the-variants.{FromLocalFields}
 use Rattle.ion.specs.declared.Timestamp.{Timestamp}
@@ -61,14 +61,14 @@ date : ℕ → ℕ → ℕ → BuilderFields
 date y m d = withDay (withMonth (withYear y) m) d
 
 minute : BuilderFields → ℕ → ℕ → ℤ → BuilderFields
-minute f h m o = withOffset (withHourAndMinute f h m) (FromLocalFields (minutesIs o))
+minute f h m o = withOffset (withHourAndMinute f h m) (FromLocalFields (offsetMinutes o))
 
 -- 2020-02-03T04:05:06, and the same with an offset
 sixth : BuilderFields
 sixth = withSecond (withHourAndMinute (date 2020 2 3) 4 5) 6
 
 at : BuilderFields → ℤ → BuilderFields
-at f o = withOffset f (FromLocalFields (minutesIs o))
+at f o = withOffset f (FromLocalFields (offsetMinutes o))
 
 p1 : BuilderFields
 p1 = withYear 1
@@ -113,7 +113,7 @@ written f = bytes (valueOf (stamp f))
 
 -- the value with a byte after it, which is not read
 readBack : List ℕ → Answer
-readBack s = let r = readOf (s ++ (0x6f ∷ [])) in value (r .number) (wordIn (r .stamp)) (r .stamp .attoseconds) (r .taken)
+readBack s = let r = readValue (s ++ (0x6f ∷ [])) in value (r .number) (wordIn (r .stamp)) (r .stamp .attoseconds) (r .taken)
 
 -- the stamp, and how many bytes it took
 taken : BuilderFields → ℕ → Answer
@@ -151,7 +151,7 @@ p8Bytes = 0x67 ∷ 0xc1 ∷ 0x4e ∷ 0x90 ∷ 0x81 ∷ 0x81 ∷ 0x80 ∷ 0x80 �
 pub table : List Row
 table =
     row 1 (built p1) (pair 0 0x0004420000000000 0)
-    ∷ row 1 (answered (checkOf (pairIs 0x0004420000000000 0))) (pair 0 0x0004420000000000 0)
+    ∷ row 1 (answered (checkOf (packedPair 0x0004420000000000 0))) (pair 0 0x0004420000000000 0)
     ∷ row 1 (text p1) (bytes (ascii "0001T"))
     ∷ row 1 (written p1) (bytes p1Bytes)
     ∷ row 1 (readBack p1Bytes) (taken p1 3)
@@ -178,12 +178,12 @@ table =
     ∷ row 8 (readBack p8Bytes) (taken p8 8)
     ∷ row 9 (compared (minute (date 2020 3 1) 23 28 (pos 1439)) (minute (date 2020 2 28) 23 30 (negsuc 1438))) (order (pos 0) true)
     ∷ row 10 (apart (withYear 2021) (withYear 2020)) (distance (pos 1) 31622400 0)
-    ∷ row 11 (answered (checkOf (pairIs 0x0004420000000000 1))) (pair 12 0 0)
+    ∷ row 11 (answered (checkOf (packedPair 0x0004420000000000 1))) (pair 12 0 0)
     ∷ row 12 (refused (date 1900 2 29)) (number 10)
     ∷ row 12 (refused (date 2000 2 29)) (number 0)
     ∷ []
 
 -- every row
 pub examples : map (λ (r : Row). r .given) table ≡ map (λ (r : Row). r .stated) table
-unfolding table row date minute sixth at p1 p3 p4 p5 p6 p7 p8 p1Bytes p3Bytes p4Bytes p5Bytes p6Bytes p7Bytes p8Bytes stamp answered built refused text written readBack taken compared apart placesOn places countIn count placeCount valueFrom groups varuint scanFrom readVarUInt signedCount signed varint readVarInt intCount int readInt decimalBytes padded isLeap monthLengthOf sumBelow wordOf fieldsOf capped numberOf pairOf checkOf utcFields countOf cmpOf eqOf distanceOf marked fractionText clockText minutesText offsetText fieldsText textOf offsetBytes varuints fieldCount fractionBytes bodyFrom bodyOf header valueOf decodeOffset decodeFields decodeFraction filled precisionWith decodeBody pairFrom same isBodyOf readBody readAfter readLength readOf
+unfolding table row date minute sixth at p1 p3 p4 p5 p6 p7 p8 p1Bytes p3Bytes p4Bytes p5Bytes p6Bytes p7Bytes p8Bytes stamp answered built refused text written readBack taken compared apart placesOn places countIn count placeCount valueFrom groups varuint scanFrom readVarUInt signedCount signed varint readVarInt intCount int readInt decimalBytes padded isLeap monthLengthOf sumBelow wordOf fieldsOf capped buildNumber buildPair checkOf utcFields countOf cmpOf eqOf distanceOf marked fractionText clockText minutesText offsetText fieldsText textOf offsetBytes varuints fieldCount fractionBytes bodyFrom bodyOf header valueOf decodeOffset decodeFields decodeFraction filled precisionWith decodeBody pairFrom same isBodyOf readBody readAfter readLength readValue
 examples = refl

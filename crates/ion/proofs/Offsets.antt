@@ -9,9 +9,9 @@ use lib.Dec.{eqb}
 use mir.Syntax.{w32}
 use mir.Val.{SFits}
 use Rattle.integers.specs.Floor.{_plus_}
-use Rattle.integers.proofs.Parts.{Gives, apart, parts-eq, abs-fits, natAbs-parts, add-parts, sub-parts, plus-parts}
+use Rattle.integers.proofs.Parts.{IsNatural, apart, parts-eq, abs-fits, natAbs-parts, add-parts, sub-parts, plus-parts}
 use Rattle.integers.proofs.Signs.{size-neg}
-use Rattle.ion.specs.Offset.{minutesIs, minutesOf, rawIs, rawOf, offsetOf, WithinDay}
+use Rattle.ion.specs.Pair.Offset.{offsetMinutes, minutesOf, rawOffset, rawOf, offsetOf, WithinDay}
 use Rattle.ion.specs.declared.offset.RawOffset.{RawOffset}
 use Rattle.ion.specs.declared.offset.OffsetMinutes.{OffsetMinutes}
 use Rattle.ion.specs.declared.offset.Offset.{Offset}
@@ -35,7 +35,7 @@ within-day (Known m) h = h
 -- ---- raw numbers
 
 -- less than a day either way, moved up by a day, is the raw number: 1 to 2879
-pub raised : (z : ℤ) → natAbs z < 1440 → Gives (z +ℤ pos 1440) (1440 plus z)
+pub raised : (z : ℤ) → natAbs z < 1440 → IsNatural (z +ℤ pos 1440) (1440 plus z)
 raised z h = omega (arith, natAbs-parts z, add-parts z (pos 1440), apart (z +ℤ pos 1440), plus-parts 1440 z (omega (arith, natAbs-parts z)))
 
 pub raw-below : (z : ℤ) → natAbs z < 1440 → (0 < 1440 plus z) × (1440 plus z < 2880)
@@ -49,13 +49,13 @@ raw-lt (Known m) h = raw-below (m .0) h .1
 pub raw-zero : (r : RawOffset) → offsetOf r ≡ Unknown → r .0 ≡ 0
 raw-zero r e = go (eqb (r .0) 0) refl e
   where
-    go : (t : Bool) → eqb (r .0) 0 ≡ t → cond t Unknown (Known (minutesIs (pos (r .0) -ℤ pos 1440))) ≡ Unknown → r .0 ≡ 0
+    go : (t : Bool) → eqb (r .0) 0 ≡ t → cond t Unknown (Known (offsetMinutes (pos (r .0) -ℤ pos 1440))) ≡ Unknown → r .0 ≡ 0
     go true q e = eqb-true (r .0) 0 q
     go false q e = absurd (let z : _≡_ {A = ℕ} 0 1 = cc in omega arith)
 
 pub raw-some : (r : RawOffset) (m : OffsetMinutes) → offsetOf r ≡ Known m → r .0 ≡ 0 → ⊥
 raw-some r m e z =
-    let u : offsetOf (rawIs 0) ≡ Known m = ap (λ (n : ℕ). offsetOf (rawIs n)) (sym z) ∙ e in
+    let u : offsetOf (rawOffset 0) ≡ Known m = ap (λ (n : ℕ). offsetOf (rawOffset n)) (sym z) ∙ e in
     let y : _≡_ {A = ℕ} 0 1 = cc in
     omega arith
 
@@ -66,13 +66,13 @@ raw-and-back (Known m) h =
     let n = 1440 plus m .0 in
     let b = raw-below (m .0) h in
     rw (ne-eqb n 0 (omega arith))
-    (ap (λ (z : ℤ). Known (minutesIs z))
+    (ap (λ (z : ℤ). Known (offsetMinutes z))
     (parts-eq (pos n -ℤ pos 1440) (m .0) (omega (arith, sub-parts (pos n) (pos 1440), natAbs-parts (m .0), plus-parts 1440 (m .0) (omega (arith, natAbs-parts (m .0)))))))
 
 -- a raw number below 2880 through its offset and back
 module _ (r : RawOffset) (h : r .0 < 2880) where
   abbrev Back : ℕ → Type 0
-  Back n = (rawOf (offsetOf (rawIs n)) ≡ rawIs n) × WithinDay (offsetOf (rawIs n))
+  Back n = (rawOf (offsetOf (rawOffset n)) ≡ rawOffset n) × WithinDay (offsetOf (rawOffset n))
 
   at : (n : ℕ) → n < 2880 → Back n
   at zero h = (refl, tt)
@@ -80,7 +80,7 @@ module _ (r : RawOffset) (h : r .0 < 2880) where
       let z = pos (suc n) -ℤ pos 1440 in
       let p = sub-parts (pos (suc n)) (pos 1440) in
       rw (ne-eqb (suc n) 0 (omega arith)) (
-        ap rawIs (omega (arith, p, plus-parts 1440 z (omega (arith, p, apart z)))),
+        ap rawOffset (omega (arith, p, plus-parts 1440 z (omega (arith, p, apart z)))),
         omega (arith, p, apart z, natAbs-parts z),
       )
 

@@ -5,7 +5,7 @@ use mathlib.Core.List.{List, [], _∷_}
 use Prim.Native.Nat.{ℕ}
 use borrow.Author.Tests.{eq-eqb, eqb-true}
 use lib.Dec.{eqb}
-use Rattle.ion.specs.ReadValue.{same}
+use Rattle.ion.specs.Value.ReadValue.{same}
 
 pub same-refl : (s : List ℕ) → same s s ≡ true
 unfolding same

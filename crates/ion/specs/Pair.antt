@@ -1,19 +1,7 @@
--- A timestamp's packed pair: its word and its attoseconds. Assumes nothing.
-use Prim.Native.Nat.{ℕ}
-use mathlib.Core.Bool.{Bool, _&&_}
-use lib.Dec.{eqb}
-use Rattle.ion.specs.declared.Timestamp.{Timestamp}
-
--- the packed word
-abbrev pub wordIn : Timestamp → ℕ
-wordIn s = s .«packed_fields»
-
-abbrev pub pairIs : ℕ → ℕ → Timestamp
-pairIs w a = record { «packed_fields» = w; attoseconds = a }
-
--- what a refusal hands out
-abbrev pub noStamp : Timestamp
-noStamp = pairIs 0 0
-
-abbrev pub samePair : Timestamp → Timestamp → Bool
-samePair s t = eqb (wordIn s) (wordIn t) && eqb (s .attoseconds) (t .attoseconds)
+-- The packed pair: its word, its fields, its fraction and what it counts.
+pub mod Offset
+pub mod Layout
+pub mod Word
+pub mod Fraction
+pub mod Pair
+pub mod Count

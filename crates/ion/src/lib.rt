@@ -6,7 +6,7 @@ use offset::Offset;
 use offset::OffsetMinutes;
 use offset::RawOffset;
 ghost use mathlib.Core.Path.{_≡_};
-ghost use Rattle.ion.specs.Build.{refusal};
+ghost use Rattle.ion.specs.Calls.Build.{refusedBuild};
 
 // The attoseconds of a second: a fraction has fewer.
 pub const MAX_ATTOSECONDS: u64 = 1_000_000_000_000_000_000;
@@ -98,7 +98,7 @@ pub struct Built {
 
 impl Built {
     pub fn refused(number: u32) -> Built
-        ensures { λ r. ⌜ r ≡ refusal number ⌝ }
+        ensures { λ r. ⌜ r ≡ refusedBuild number ⌝ }
     {
         Built {
             number: number,

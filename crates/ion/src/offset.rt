@@ -3,7 +3,7 @@
 ghost use mathlib.Core.Path.{_≡_};
 ghost use Prim.Native.Nat.{_<_};
 ghost use lib.IntN.{natAbs, negℤ, _-ℤ_};
-ghost use Rattle.ion.specs.Offset.{minutesIs, rawIs, offsetOf, rawOf, minutesOf, isOffset, WithinDay};
+ghost use Rattle.ion.specs.Pair.Offset.{offsetMinutes, rawOffset, offsetOf, rawOf, minutesOf, isOffset, WithinDay};
 
 // The text of an unknown offset.
 pub const UNKNOWN_TEXT: [u8; 6] = *b"-00:00";
@@ -24,7 +24,7 @@ pub enum Offset {
 
 impl RawOffset {
     pub fn new(bits: u16) -> RawOffset
-        ensures { λ r. ⌜ r ≡ rawIs bits ⌝ }
+        ensures { λ r. ⌜ r ≡ rawOffset bits ⌝ }
     {
         RawOffset(bits)
     }
@@ -38,7 +38,7 @@ impl RawOffset {
 
 impl OffsetMinutes {
     pub fn new(minutes: i32) -> OffsetMinutes
-        ensures { λ r. ⌜ r ≡ minutesIs minutes ⌝ }
+        ensures { λ r. ⌜ r ≡ offsetMinutes minutes ⌝ }
     {
         OffsetMinutes(minutes)
     }
@@ -59,13 +59,13 @@ impl OffsetMinutes {
     // The minutes to add for UTC.
     pub fn negated(self) -> OffsetMinutes
         requires { ⌜ natAbs (self .0) < 1440 ⌝ }
-        ensures { λ r. ⌜ r ≡ minutesIs (negℤ (self .0)) ⌝ }
+        ensures { λ r. ⌜ r ≡ offsetMinutes (negℤ (self .0)) ⌝ }
     {
         OffsetMinutes(-self.0)
     }
 
     // The difference of two offsets, this less the other.
-    pub fn less(self, other: OffsetMinutes) -> i32
+    pub fn minus(self, other: OffsetMinutes) -> i32
         requires { ⌜ (natAbs (self .0) < 1440) × (natAbs (other .0) < 1440) ⌝ }
         ensures { λ r. ⌜ r ≡ self .0 -ℤ other .0 ⌝ }
     {
@@ -98,7 +98,7 @@ pub fn raw_of(o: Offset) -> RawOffset
 
 // The minutes to subtract for UTC: none where the offset is unknown.
 pub fn minutes_of(o: Offset) -> OffsetMinutes
-    ensures { λ r. ⌜ r ≡ minutesIs (minutesOf o) ⌝ }
+    ensures { λ r. ⌜ r ≡ offsetMinutes (minutesOf o) ⌝ }
 {
     match o {
         Offset::Unknown => OffsetMinutes(0),

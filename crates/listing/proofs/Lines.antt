@@ -7,19 +7,19 @@ use native.Mathlib.Omega.{arith}
 use borrow.Author.Tests.{le-ltb, lt-ltb, eq-eqb, ne-eqb, eqb-true, eqb-false}
 use lib.Dec.{eqb, ltb}
 use lib.ListN.{length, drop, length-append, length-drop}
-use Rattle.ion.specs.Refusal.{longInput}
-use Rattle.ion.specs.Text.{textOf}
-use Rattle.ion.specs.Value.{bodyOf, header, valueOf}
-use Rattle.ion.specs.ReadValue.{readOf}
-use Rattle.ion.specs.Stamps.{lineOf, stopLine, linesOf, outputOf}
+use Rattle.ion.specs.Calls.Refusal.{longInput}
+use Rattle.ion.specs.Text.Format.{textOf}
+use Rattle.ion.specs.Value.Encode.{bodyOf, header, valueOf}
+use Rattle.ion.specs.Value.ReadValue.{readValue}
+use Rattle.ion.specs.Calls.Stamps.{lineOf, stopLine, linesOf, outputOf}
 use Rattle.timestamp_binary.proofs.Readings.{read-is}
 use Rattle.timestamp_binary.proofs.Lengths.{value-some}
 
 -- a value takes at least three bytes
-pub taken-some : (s : List ℕ) → readOf s .number ≡ 0 → 3 ≤ readOf s .taken
+pub taken-some : (s : List ℕ) → readValue s .number ≡ 0 → 3 ≤ readValue s .taken
 taken-some s e =
     let r = read-is s e in
-    omega (arith, r .taken, value-some (readOf s .stamp))
+    omega (arith, r .taken, value-some (readValue s .stamp))
 
 -- ---- a step
 
@@ -28,16 +28,16 @@ unfolding linesOf
 lines-none zero = refl
 lines-none (suc n) = refl
 
-pub lines-more : (n : ℕ) (s : List ℕ) → 0 < length s → readOf s .number ≡ 0
-    → linesOf (suc n) s ≡ lineOf (textOf (readOf s .stamp)) ++ linesOf n (drop (readOf s .taken) s)
+pub lines-more : (n : ℕ) (s : List ℕ) → 0 < length s → readValue s .number ≡ 0
+    → linesOf (suc n) s ≡ lineOf (textOf (readValue s .stamp)) ++ linesOf n (drop (readValue s .taken) s)
 unfolding linesOf
 lines-more n [] h e = absurd (omega arith)
-lines-more n (b ∷ s) h e = rw (eq-eqb (readOf (b ∷ s) .number) 0 e)
+lines-more n (b ∷ s) h e = rw (eq-eqb (readValue (b ∷ s) .number) 0 e)
 
-pub lines-stop : (n : ℕ) (s : List ℕ) → 0 < length s → (readOf s .number ≡ 0 → ⊥) → linesOf (suc n) s ≡ stopLine (readOf s .number)
+pub lines-stop : (n : ℕ) (s : List ℕ) → 0 < length s → (readValue s .number ≡ 0 → ⊥) → linesOf (suc n) s ≡ stopLine (readValue s .number)
 unfolding linesOf
 lines-stop n [] h e = absurd (omega arith)
-lines-stop n (b ∷ s) h e = rw (ne-eqb (readOf (b ∷ s) .number) 0 e)
+lines-stop n (b ∷ s) h e = rw (ne-eqb (readValue (b ∷ s) .number) 0 e)
 
 -- more steps than bytes make no difference
 no-bytes : (n : ℕ) (s : List ℕ) → length s ≤ 0 → linesOf n s ≡ []
@@ -50,16 +50,16 @@ lines-fuel (suc m) zero s h k = no-bytes (suc m) s k ∙ sym (no-bytes zero s k)
 lines-fuel (suc m) (suc n) s h k = go (λ t. lines-fuel m n t) s h k
   where
     step : ((t : List ℕ) → length t ≤ m → length t ≤ n → linesOf m t ≡ linesOf n t) → (s : List ℕ) → 0 < length s → length s ≤ suc m → length s ≤ suc n
-        → (t : Bool) → eqb (readOf s .number) 0 ≡ t → linesOf (suc m) s ≡ linesOf (suc n) s
+        → (t : Bool) → eqb (readValue s .number) 0 ≡ t → linesOf (suc m) s ≡ linesOf (suc n) s
     step ih s p h k true e =
-        let z = eqb-true (readOf s .number) 0 e in
+        let z = eqb-true (readValue s .number) 0 e in
         let l = taken-some s z in
-        let d = length-drop (readOf s .taken) s in
+        let d = length-drop (readValue s .taken) s in
         lines-more m s p z
-        ∙ ap (λ (x : List ℕ). lineOf (textOf (readOf s .stamp)) ++ x) (ih (drop (readOf s .taken) s) (omega arith) (omega arith))
+        ∙ ap (λ (x : List ℕ). lineOf (textOf (readValue s .stamp)) ++ x) (ih (drop (readValue s .taken) s) (omega arith) (omega arith))
         ∙ sym (lines-more n s p z)
     step ih s p h k false e =
-        let z = eqb-false (readOf s .number) 0 e in
+        let z = eqb-false (readValue s .number) 0 e in
         lines-stop m s p z ∙ sym (lines-stop n s p z)
 
     go : ((t : List ℕ) → length t ≤ m → length t ≤ n → linesOf m t ≡ linesOf n t) → (s : List ℕ) → length s ≤ suc m → length s ≤ suc n
@@ -72,16 +72,16 @@ lines-fuel (suc m) (suc n) s h k = go (λ t. lines-fuel m n t) s h k
 abbrev pub lines : List ℕ → List ℕ
 lines s = linesOf (length s) s
 
-pub next-line : (s : List ℕ) → 0 < length s → readOf s .number ≡ 0
-    → lines s ≡ lineOf (textOf (readOf s .stamp)) ++ lines (drop (readOf s .taken) s)
+pub next-line : (s : List ℕ) → 0 < length s → readValue s .number ≡ 0
+    → lines s ≡ lineOf (textOf (readValue s .stamp)) ++ lines (drop (readValue s .taken) s)
 next-line [] h e = absurd (omega arith)
 next-line (b ∷ s) h e =
-    let t = drop (readOf (b ∷ s) .taken) (b ∷ s) in
+    let t = drop (readValue (b ∷ s) .taken) (b ∷ s) in
     lines-more (length s) (b ∷ s) h e
-    ∙ ap (λ (x : List ℕ). lineOf (textOf (readOf (b ∷ s) .stamp)) ++ x)
-    (lines-fuel (length s) (length t) t (omega (arith, length-drop (readOf (b ∷ s) .taken) (b ∷ s), taken-some (b ∷ s) e)) (omega arith))
+    ∙ ap (λ (x : List ℕ). lineOf (textOf (readValue (b ∷ s) .stamp)) ++ x)
+    (lines-fuel (length s) (length t) t (omega (arith, length-drop (readValue (b ∷ s) .taken) (b ∷ s), taken-some (b ∷ s) e)) (omega arith))
 
-pub last-line : (s : List ℕ) → 0 < length s → (readOf s .number ≡ 0 → ⊥) → lines s ≡ stopLine (readOf s .number)
+pub last-line : (s : List ℕ) → 0 < length s → (readValue s .number ≡ 0 → ⊥) → lines s ≡ stopLine (readValue s .number)
 last-line [] h e = absurd (omega arith)
 last-line (b ∷ s) h e = lines-stop (length s) (b ∷ s) h e
 

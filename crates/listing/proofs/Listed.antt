@@ -6,11 +6,11 @@ use native.Mathlib.Nat.{zero-add}
 use native.Mathlib.Omega.{arith}
 use lib.ListN.{length, take, drop, length-append, length-drop, drop-of-length-le, take-append-drop}
 use lib.Seq.{length-take-le, drop-drop}
-use Rattle.ion.specs.Output.{over, Run}
-use Rattle.ion.specs.Text.{textOf}
-use Rattle.ion.specs.Value.{valueOf}
-use Rattle.ion.specs.ReadValue.{readOf}
-use Rattle.ion.specs.Stamps.{lineOf, stopLine}
+use Rattle.ion.specs.Calls.Output.{over, Run}
+use Rattle.ion.specs.Text.Format.{textOf}
+use Rattle.ion.specs.Value.Encode.{valueOf}
+use Rattle.ion.specs.Value.ReadValue.{readValue}
+use Rattle.ion.specs.Calls.Stamps.{lineOf, stopLine}
 use Rattle.output.proofs.Stores.{drop-over, length-over}
 use Rattle.output.proofs.Runs.{run-front}
 use Rattle.timestamp_binary.proofs.Readings.{read-is}
@@ -61,25 +61,25 @@ module _ {input d e : List ℕ} {at end : ℕ} (p : Listed input d e at end) (ro
     left : 0 < length (drop at input)
     left = omega (arith, length-drop at input)
 
-    module _ (ok : readOf (drop at input) .number ≡ 0) where
-      taken-within : readOf (drop at input) .taken ≤ length (drop at input)
+    module _ (ok : readValue (drop at input) .number ≡ 0) where
+      taken-within : readValue (drop at input) .taken ≤ length (drop at input)
       taken-within =
           let q = read-is (drop at input) ok in
-          let v = valueOf (readOf (drop at input) .stamp) in
-          omega (arith, q .taken, ap length (q .bytes), length-append v (drop (readOf (drop at input) .taken) (drop at input)))
+          let v = valueOf (readValue (drop at input) .stamp) in
+          omega (arith, q .taken, ap length (q .bytes), length-append v (drop (readValue (drop at input) .taken) (drop at input)))
 
       -- there is room for its line
       pub line-room : end + 45 ≤ length e
       line-room = omega (arith, p .few, p .size, taken-some (drop at input) ok, taken-within, length-drop at input)
 
-      pub taken-fits : at + readOf (drop at input) .taken ≤ length input
+      pub taken-fits : at + readValue (drop at input) .taken ≤ length input
       taken-fits = omega (arith, taken-within, length-drop at input)
 
-      pub next : {g : List ℕ} {n : ℕ} → Run e end (lineOf (textOf (readOf (drop at input) .stamp))) g n → n ≤ end + 45
-          → Listed input d g (at + readOf (drop at input) .taken) n
+      pub next : {g : List ℕ} {n : ℕ} → Run e end (lineOf (textOf (readValue (drop at input) .stamp))) g n → n ≤ end + 45
+          → Listed input d g (at + readValue (drop at input) .taken) n
       next {g} {n} r h =
-          let t = readOf (drop at input) .taken in
-          let l = lineOf (textOf (readOf (drop at input) .stamp)) in
+          let t = readValue (drop at input) .taken in
+          let l = lineOf (textOf (readValue (drop at input) .stamp)) in
           let k = taken-some (drop at input) ok in
           let fits : n ≤ length d = omega (arith, p .few, k, taken-within, length-drop at input) in
           record {
@@ -95,7 +95,7 @@ module _ {input d e : List ℕ} {at end : ℕ} (p : Listed input d e at end) (ro
           }
 
     -- the last line
-    pub stop : (readOf (drop at input) .number ≡ 0 → ⊥) → {g : List ℕ} {n : ℕ} → Run e end (stopLine (readOf (drop at input) .number)) g n → n ≤ length d
+    pub stop : (readValue (drop at input) .number ≡ 0 → ⊥) → {g : List ℕ} {n : ℕ} → Run e end (stopLine (readValue (drop at input) .number)) g n → n ≤ length d
         → Run d 0 (lines input) g n
     stop z {g} {n} r h =
         whole (lines input)

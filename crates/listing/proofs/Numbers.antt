@@ -5,9 +5,9 @@ use Prim.Native.Nat.{ℕ, _+_, _-_, _≤_}
 use native.Mathlib.Omega.{arith}
 use lib.Dec.{eqb, ltb}
 use lib.ListN.{length, take}
-use Rattle.ion.specs.Refusal.{inputEnds, firstByteRefused, bodyRefused}
-use Rattle.ion.specs.Decode.{Decoded, found, nothing, decodeBody, pairFrom}
-use Rattle.ion.specs.ReadValue.{refusedReading, acceptedReading, isBodyOf, takenAs, readBody, readAfter, readLength, readOf}
+use Rattle.ion.specs.Calls.Refusal.{inputEnds, firstByteRefused, bodyRefused}
+use Rattle.ion.specs.Value.Decode.{Decoded, found, nothing, decodeBody, pairFrom}
+use Rattle.ion.specs.Value.ReadValue.{refusedReading, acceptedReading, isBodyOf, takenAs, readBody, readAfter, readLength, readValue}
 use Rattle.ion.specs.declared.Body.{Body}
 use Rattle.ion.specs.declared.Read.{Read}
 
@@ -32,8 +32,8 @@ unfolding readLength
 length-number [] = omega arith
 length-number (c ∷ s) = either (ltb c 0x8e || ltb 0x92 c) (refusedReading bodyRefused) (readAfter 2 (c - 0x80) s) (omega arith) (after-number 2 (c - 0x80) s)
 
-pub read-number : (s : List ℕ) → readOf s .number ≤ 15
-unfolding readOf
+pub read-number : (s : List ℕ) → readValue s .number ≤ 15
+unfolding readValue
 read-number [] = omega arith
 read-number (d ∷ s) =
     either (ltb d 0x60 || ltb 0x6e d) (refusedReading firstByteRefused) (cond (eqb d 0x6e) (readLength s) (readAfter 1 (d - 0x60) s)) (omega arith)

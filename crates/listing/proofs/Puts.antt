@@ -5,14 +5,14 @@ use Prim.Native.Nat.{ℕ, _+_, _≤_, _<_, max}
 use native.Mathlib.Omega.{arith}
 use lib.Dec.{lit<}
 use lib.ListN.{length}
-use Rattle.ion.specs.Pair.{wordIn}
-use Rattle.ion.specs.Word.{fieldsOf}
-use Rattle.ion.specs.Ascii.{ascii}
-use Rattle.ion.specs.Padded.{padded, digitCount}
-use Rattle.ion.specs.Output.{over, Run}
-use Rattle.ion.specs.Accepted.{Valid, Accepted}
-use Rattle.ion.specs.Text.{fieldsText, textOf}
-use Rattle.ion.specs.Stamps.{lineOf, stopLine}
+use Rattle.ion.specs.Pair.Pair.{wordIn}
+use Rattle.ion.specs.Pair.Word.{fieldsOf}
+use Rattle.ion.specs.Text.Ascii.{ascii}
+use Rattle.ion.specs.Numbers.Padded.{padded, digitCount}
+use Rattle.ion.specs.Calls.Output.{over, Run}
+use Rattle.ion.specs.Calls.Accepted.{Valid, Accepted}
+use Rattle.ion.specs.Text.Format.{fieldsText, textOf}
+use Rattle.ion.specs.Calls.Stamps.{lineOf, stopLine}
 use Rattle.ion.specs.declared.Fields.{Fields}
 use Rattle.ion.specs.declared.Timestamp.{Timestamp}
 use Rattle.output.proofs.Runs.{run-two}

@@ -4,8 +4,8 @@ mod line;
 use ion::refusal;
 ghost use Prim.Native.Nat.{_+_, _*_, _≤_};
 ghost use lib.ListN.{length};
-ghost use Rattle.ion.specs.Output.{Run};
-ghost use Rattle.ion.specs.Stamps.{outputOf};
+ghost use Rattle.ion.specs.Calls.Output.{Run};
+ghost use Rattle.ion.specs.Calls.Stamps.{outputOf};
 
 // Lists the values of `input` from the start of `out` on; how many bytes that takes.
 pub fn list(input: &[u8], out: &mut [u8]) -> usize

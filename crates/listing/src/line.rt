@@ -4,10 +4,10 @@ use text::text_formatter;
 ghost use mathlib.Core.Path.{_≡_};
 ghost use Prim.Native.Nat.{_+_, _≤_, _<_};
 ghost use lib.ListN.{length};
-ghost use Rattle.ion.specs.Accepted.{Accepted};
-ghost use Rattle.ion.specs.Output.{Run};
-ghost use Rattle.ion.specs.Stamps.{lineOf, stopLine};
-ghost use Rattle.ion.specs.Text.{textOf};
+ghost use Rattle.ion.specs.Calls.Accepted.{Accepted};
+ghost use Rattle.ion.specs.Calls.Output.{Run};
+ghost use Rattle.ion.specs.Calls.Stamps.{lineOf, stopLine};
+ghost use Rattle.ion.specs.Text.Format.{textOf};
 
 // Puts a text and a line feed from index `at` on; the index after them.
 pub(crate) fn put_text(out: &mut [u8], at: usize, s: Timestamp) -> usize

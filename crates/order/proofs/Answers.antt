@@ -6,11 +6,11 @@ use native.Mathlib.Decide.{ℕ-discrete}
 use lib.Dec.{eqb}
 use lib.IntN.{pos}
 use borrow.Author.Tests.{eq-eqb, ne-eqb}
-use Rattle.ion.specs.Pair.{samePair}
-use Rattle.ion.specs.Check.{checkOf}
-use Rattle.ion.specs.Accepted.{Accepted}
-use Rattle.ion.specs.Count.{countOf}
-use Rattle.ion.specs.Order.{numberOfTwo, orderOf, ionOrder, sizeOfDifference, cmpOf, eqOf, ionEqOf, ionCmpOf, distanceOf}
+use Rattle.ion.specs.Pair.Pair.{samePair}
+use Rattle.ion.specs.Calls.Check.{checkOf}
+use Rattle.ion.specs.Calls.Accepted.{Accepted}
+use Rattle.ion.specs.Pair.Count.{countOf}
+use Rattle.ion.specs.Calls.Order.{checkBoth, orderOf, ionOrder, sizeOfDifference, cmpOf, eqOf, ionEqOf, ionCmpOf, distanceOf}
 use Rattle.ion.specs.declared.Timestamp.{Timestamp}
 use Rattle.ion.specs.declared.Ordered.{Ordered}
 use Rattle.ion.specs.declared.Compared.{Compared}
@@ -22,10 +22,10 @@ use Rattle.order.specs.Answers.{ordered, compared, distanceOfCounts}
 module _ (s t : Timestamp) where
   -- ---- both checks answer 0 where both timestamps are accepted, and nowhere else
 
-  pub both-zero : Accepted s → Accepted t → numberOfTwo s t ≡ 0
+  pub both-zero : Accepted s → Accepted t → checkBoth s t ≡ 0
   both-zero p q = simp (eq-eqb (checkOf s .number) 0 (check-zero s p)) (check-zero t q)
 
-  pub both-accepted : numberOfTwo s t ≡ 0 → Accepted s × Accepted t
+  pub both-accepted : checkBoth s t ≡ 0 → Accepted s × Accepted t
   both-accepted e = go (ℕ-discrete (checkOf s .number) 0)
     where
       go : Dec (checkOf s .number ≡ 0) → Accepted s × Accepted t
@@ -34,7 +34,7 @@ module _ (s t : Timestamp) where
 
   -- ---- the answers
 
-  module _ (e : numberOfTwo s t ≡ 0) where
+  module _ (e : checkBoth s t ≡ 0) where
     pub cmp-zero : cmpOf s t ≡ ordered (orderOf (countOf s) (countOf t))
     unfolding cmpOf
     cmp-zero = λ i. record { number = e i; order = if-zero _ (orderOf (countOf s) (countOf t)) (pos 0) e i }
@@ -64,7 +64,7 @@ module _ (s t : Timestamp) where
         }
 
   -- a number alone, r, as it was answered
-  module _ {r : ℕ} (e : r ≡ numberOfTwo s t) (h : r ≡ 0 → ⊥) where
+  module _ {r : ℕ} (e : r ≡ checkBoth s t) (h : r ≡ 0 → ⊥) where
     pub cmp-refused : _≡_ {A = Ordered} (record { number = r; order = pos 0 }) (cmpOf s t)
     unfolding cmpOf
     cmp-refused = λ i. record { number = e i; order = if-refused (orderOf (countOf s) (countOf t)) (pos 0) e h i }

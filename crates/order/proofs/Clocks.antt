@@ -4,17 +4,17 @@ use Prim.Native.Nat.{ℕ, _+_, _*_, _^_, _≤_, _<_}
 use native.Mathlib.Omega.{arith}
 use lib.IntN.{ℤ, pos, negℤ, natAbs, _+ℤ_, _-ℤ_}
 use Rattle.integers.specs.Floor.{_plus_}
-use Rattle.integers.proofs.Parts.{Gives, up, down, apart, add-parts, sub-parts, neg-parts, plus-parts, natAbs-parts}
-use Rattle.ion.specs.Offset.{offsetOf}
-use Rattle.ion.specs.Accepted.{timeIn, dateIn, Valid}
-use Rattle.ion.specs.Shift.{minuteNumber}
-use Rattle.ion.specs.Count.{offsetIn, countIn}
-use Rattle.ion.specs.Order.{orderOf}
+use Rattle.integers.proofs.Parts.{IsNatural, up, down, apart, add-parts, sub-parts, neg-parts, plus-parts, natAbs-parts}
+use Rattle.ion.specs.Pair.Offset.{offsetOf}
+use Rattle.ion.specs.Calls.Accepted.{timeIn, dateIn, Valid}
+use Rattle.ion.specs.Calendar.Shift.{minuteNumber}
+use Rattle.ion.specs.Pair.Count.{offsetIn, fieldsCount}
+use Rattle.ion.specs.Calls.Order.{orderOf}
 use Rattle.ion.specs.declared.Fields.{Fields}
 use Rattle.ion.proofs.Offsets.{within-day}
 use Rattle.calendar.proofs.Dates.{after-year-zero, day-number-below}
 use Rattle.timestamp.proofs.Valid.{valid-time, valid-offset}
-use Rattle.order.specs.Local.{IsLocal, secondsAt, utcSeconds, aheadOf}
+use Rattle.order.specs.Local.{IsLocalFields, secondsAt, utcSeconds, offsetDifference}
 use Rattle.order.specs.Counts.{orderOfPairs}
 use Rattle.order.specs.Answers.{distant, distanceOfCounts}
 use Rattle.order.proofs.Orders.{order-shift, pairs-alike}
@@ -22,7 +22,7 @@ use Rattle.order.proofs.Differences.{size-shift, shift-counts, pairs-co
 
 -- ---- valid fields
 
-pub valid-local : {f : Fields} {a : ℕ} → Valid f a → IsLocal f
+pub valid-local : {f : Fields} {a : ℕ} → Valid f a → IsLocalFields f
 valid-local {f} v =
     record {
       time = valid-time v;
@@ -32,7 +32,7 @@ valid-local {f} v =
       offset = within-day (offsetOf (f .offset)) (valid-offset v);
     }
 
-module _ (f : Fields) (p : IsLocal f) where
+module _ (f : Fields) (p : IsLocalFields f) where
   pub minutes-below : minuteNumber (timeIn f) + 2880 < 2 ^ 33
   minutes-below = omega (arith, day-number-below (dateIn f) (p .time .date) (omega (arith, p .to-year)), p .time .hours, p .time .minutes)
 
@@ -45,7 +45,7 @@ module _ (f : Fields) (p : IsLocal f) where
     abbrev n : ℕ
     n = minuteNumber (timeIn f)
 
-    pub moved-gives : Gives (pos n +ℤ z) (n plus z)
+    pub moved-gives : IsNatural (pos n +ℤ z) (n plus z)
     moved-gives = omega (arith, add-parts (pos n) z, apart (pos n +ℤ z), plus-parts n z (minutes-room z h))
 
     pub moved-below : n plus z < 2 ^ 33
@@ -59,28 +59,28 @@ module _ (f : Fields) (p : IsLocal f) where
       omega (arith, neg-parts o, plus-parts (minuteNumber (timeIn f)) m (minutes-room m (omega (arith, p .offset, natAbs-parts o, natAbs-parts m, neg-parts o))))
 
 -- seconds that lie as those in UTC do, and then the attoseconds, give the order of the counts
-pub order-by : (f g : Fields) (a b : ℕ) → a < 10 ^ 18 → b < 10 ^ 18 → (m n : ℕ) → orderOf m n ≡ orderOf (utcSeconds f) (utcSeconds g) → orderOfPairs m a n b ≡ orderOf (countIn f a) (countIn g b)
+pub order-by : (f g : Fields) (a b : ℕ) → a < 10 ^ 18 → b < 10 ^ 18 → (m n : ℕ) → orderOf m n ≡ orderOf (utcSeconds f) (utcSeconds g) → orderOfPairs m a n b ≡ orderOf (fieldsCount f a) (fieldsCount g b)
 order-by f g a b h k m n e = pairs-alike m n (utcSeconds f) (utcSeconds g) a b e ∙ pairs-count (10 ^ 18) (utcSeconds f) (utcSeconds g) a b h k
 
-module _ (f g : Fields) (p : IsLocal f) (q : IsLocal g) where
-  pub ahead-small : natAbs (aheadOf f g) < 2880
+module _ (f g : Fields) (p : IsLocalFields f) (q : IsLocalFields g) where
+  pub ahead-small : natAbs (offsetDifference f g) < 2880
   ahead-small =
       let o = offsetIn f in
       let r = offsetIn g in
       omega (arith, p .offset, q .offset, natAbs-parts o, natAbs-parts r, natAbs-parts (o -ℤ r), sub-parts o r, apart (o -ℤ r))
 
   -- by the clock of the first both are as far from UTC
-  pub same-clock : secondsAt f (pos 0) + utcSeconds g ≡ secondsAt g (aheadOf f g) + utcSeconds f
+  pub same-clock : secondsAt f (pos 0) + utcSeconds g ≡ secondsAt g (offsetDifference f g) + utcSeconds f
   same-clock =
-      let z = aheadOf f g in
+      let z = offsetDifference f g in
       omega (arith, utc-parts f p, utc-parts g q, plus-parts (minuteNumber (timeIn g)) z (minutes-room g q z ahead-small), sub-parts (offsetIn f) (offsetIn g))
 
   module _ (a b : ℕ) (h : a < 10 ^ 18) (k : b < 10 ^ 18) where
-    pub order-is : orderOfPairs (secondsAt f (pos 0)) a (secondsAt g (aheadOf f g)) b ≡ orderOf (countIn f a) (countIn g b)
-    order-is = let m = secondsAt f (pos 0) in let n = secondsAt g (aheadOf f g) in order-by f g a b h k m n (order-shift m n (utcSeconds f) (utcSeconds g) same-clock)
+    pub order-is : orderOfPairs (secondsAt f (pos 0)) a (secondsAt g (offsetDifference f g)) b ≡ orderOf (fieldsCount f a) (fieldsCount g b)
+    order-is = let m = secondsAt f (pos 0) in let n = secondsAt g (offsetDifference f g) in order-by f g a b h k m n (order-shift m n (utcSeconds f) (utcSeconds g) same-clock)
 
-    counts-shift : (secondsAt f (pos 0) * 10 ^ 18 + a) + countIn g b ≡ (secondsAt g (aheadOf f g) * 10 ^ 18 + b) + countIn f a
-    counts-shift = shift-counts (10 ^ 18) (secondsAt f (pos 0)) (secondsAt g (aheadOf f g)) (utcSeconds f) (utcSeconds g) a b same-clock
+    counts-shift : (secondsAt f (pos 0) * 10 ^ 18 + a) + fieldsCount g b ≡ (secondsAt g (offsetDifference f g) * 10 ^ 18 + b) + fieldsCount f a
+    counts-shift = shift-counts (10 ^ 18) (secondsAt f (pos 0)) (secondsAt g (offsetDifference f g)) (utcSeconds f) (utcSeconds g) a b same-clock
 
-    pub distance-is : distanceOfCounts (secondsAt f (pos 0) * 10 ^ 18 + a) (secondsAt g (aheadOf f g) * 10 ^ 18 + b) ≡ distanceOfCounts (countIn f a) (countIn g b)
+    pub distance-is : distanceOfCounts (secondsAt f (pos 0) * 10 ^ 18 + a) (secondsAt g (offsetDifference f g) * 10 ^ 18 + b) ≡ distanceOfCounts (fieldsCount f a) (fieldsCount g b)
     distance-is = ap₂ distant (order-shift _ _ _ _ counts-shift) (size-shift _ _ _ _ counts-shift)

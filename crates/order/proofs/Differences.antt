@@ -7,7 +7,7 @@ use native.Mathlib.Omega.{arith}
 use lib.Arith.{digits-div, digits-mod}
 use lib.IntN.{pos, _-ℤ_}
 use Rattle.integers.proofs.Parts.{apart, sub-parts, natAbs-parts}
-use Rattle.ion.specs.Order.{orderOf, sizeOfDifference}
+use Rattle.ion.specs.Calls.Order.{orderOf, sizeOfDifference}
 use Rattle.order.specs.Counts.{orderOfPairs}
 use Rattle.order.proofs.Orders.{order-alike, pairs-first, pairs-second, pairs-alike}
 

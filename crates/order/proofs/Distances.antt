@@ -7,9 +7,9 @@ use native.Mathlib.Omega.{arith}
 use lib.Dec.{lit<}
 use lib.IntN.{ℤ, pos, negsuc, negℤ, _-ℤ_, _*ℤ_}
 use Rattle.integers.proofs.Parts.{up, down, sub-parts, mul-parts, parts-eq}
-use Rattle.ion.specs.Accepted.{Accepted}
-use Rattle.ion.specs.Count.{countOf}
-use Rattle.ion.specs.Order.{orderOf, sizeOfDifference, cmpOf, distanceOf}
+use Rattle.ion.specs.Calls.Accepted.{Accepted}
+use Rattle.ion.specs.Pair.Count.{countOf}
+use Rattle.ion.specs.Calls.Order.{orderOf, sizeOfDifference, cmpOf, distanceOf}
 use Rattle.ion.specs.declared.Timestamp.{Timestamp}
 use Rattle.ion.specs.declared.Distance.{Distance}
 use Rattle.order.specs.Answers.{distant}

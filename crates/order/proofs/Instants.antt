@@ -4,10 +4,10 @@ use Prim.Native.Nat.{ℕ, _+_, _*_, _^_}
 use native.Mathlib.Omega.{arith}
 use lib.IntN.{ℤ, pos, _-ℤ_, _*ℤ_}
 use Rattle.integers.proofs.Parts.{up, down, sub-parts, mul-parts, parts-eq}
-use Rattle.ion.specs.Pair.{wordIn}
-use Rattle.ion.specs.Word.{fieldsOf}
-use Rattle.ion.specs.Accepted.{Accepted}
-use Rattle.ion.specs.Count.{attosecondsIn, offsetIn, countOf}
+use Rattle.ion.specs.Pair.Pair.{wordIn}
+use Rattle.ion.specs.Pair.Word.{fieldsOf}
+use Rattle.ion.specs.Calls.Accepted.{Accepted}
+use Rattle.ion.specs.Pair.Count.{attosecondsIn, offsetIn, countOf}
 use Rattle.ion.specs.declared.Timestamp.{Timestamp}
 use Rattle.order.specs.Local.{localCount}
 use Rattle.order.proofs.Clocks.{valid-local, utc-parts}

@@ -10,7 +10,7 @@ use lib.Signed.{ltZ, leZ}
 use mir.Syntax.{w32}
 use mir.Val.{ofZ}
 use borrow.Author.Tests.{lt-ltb, le-ltb, eq-eqb, ne-eqb, eqb-true}
-use Rattle.ion.specs.Order.{orderOf}
+use Rattle.ion.specs.Calls.Order.{orderOf}
 use Rattle.order.specs.Counts.{orderOfPairs}
 
 pub order-less : (m n : ℕ) → m < n → orderOf m n ≡ negsuc 0

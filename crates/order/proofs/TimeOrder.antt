@@ -11,15 +11,15 @@ use lib.Dec.{eqb}
 use lib.IntN.{ℤ, pos, negsuc, negℤ}
 use lib.Signed.{leZ}
 use borrow.Author.Tests.{eq-eqb, eqb-true}
-use Rattle.ion.specs.Calendar.{isLeap, monthLengthOf, sumBelow}
-use Rattle.ion.specs.Offset.{rawIs}
-use Rattle.ion.specs.Word.{wordOf, fieldsOf}
-use Rattle.ion.specs.Pair.{wordIn, pairIs}
-use Rattle.ion.specs.Build.{numberOf, pairOf}
-use Rattle.ion.specs.Check.{checkOf}
-use Rattle.ion.specs.Accepted.{Accepted}
-use Rattle.ion.specs.Count.{countOf}
-use Rattle.ion.specs.Order.{orderOf, cmpOf, eqOf, ionCmpOf}
+use Rattle.ion.specs.Calendar.Dates.{isLeap, monthLengthOf, sumBelow}
+use Rattle.ion.specs.Pair.Offset.{rawOffset}
+use Rattle.ion.specs.Pair.Word.{wordOf, fieldsOf}
+use Rattle.ion.specs.Pair.Pair.{wordIn, packedPair}
+use Rattle.ion.specs.Calls.Build.{buildNumber, buildPair}
+use Rattle.ion.specs.Calls.Check.{checkOf}
+use Rattle.ion.specs.Calls.Accepted.{Accepted}
+use Rattle.ion.specs.Pair.Count.{countOf}
+use Rattle.ion.specs.Calls.Order.{orderOf, cmpOf, eqOf, ionCmpOf}
 use Rattle.ion.specs.declared.Timestamp.{Timestamp}
 use Rattle.ion.specs.declared.Ordered.{Ordered}
 use Rattle.ion.specs.declared.Compared.{Compared}
@@ -106,7 +106,7 @@ stored-is-time s t p q o h k =
 -- 2020-02-03T04:05:06 in UTC with a fraction of so many digits
 abbrev pub sixth : ℕ → ℕ → Timestamp
 sixth digits a =
-    pairIs
+    packedPair
     (wordOf
     (record {
       year = 2020;
@@ -117,12 +117,12 @@ sixth digits a =
       second = 6;
       precision = 4;
       digits = digits;
-      offset = rawIs 1440;
+      offset = rawOffset 1440;
     }))
     a
 
 -- without equal digit counts they need not: .5 is later than .10, though stored before it
 pub stored-is-not-time :
     (cmpOf (sixth 1 (5 * 10 ^ 17)) (sixth 2 (1 * 10 ^ 17)) ≡ ordered (pos 1)) × (ionCmpOf (sixth 1 (5 * 10 ^ 17)) (sixth 2 (1 * 10 ^ 17)) ≡ ordered (negsuc 0))
-unfolding wordOf fieldsOf checkOf numberOf pairOf countOf cmpOf ionCmpOf isLeap monthLengthOf sumBelow
+unfolding wordOf fieldsOf checkOf buildNumber buildPair countOf cmpOf ionCmpOf isLeap monthLengthOf sumBelow
 stored-is-not-time = (refl, refl)

@@ -4,20 +4,20 @@ use mathlib.Core.Logic.{_⊎_, inl, inr}
 use Prim.Native.Nat.{ℕ, _+_, _*_, _/_, _%_, _^_, _<_}
 use native.Mathlib.Omega.{arith}
 use Rattle.integers.proofs.Parts.{up, down}
-use Rattle.ion.specs.Offset.{rawIs, offsetOf, minutesOf}
-use Rattle.ion.specs.Calendar.{IsDate, Earlier, dayNumber}
-use Rattle.ion.specs.Pair.{wordIn}
-use Rattle.ion.specs.Accepted.{dateIn, Accepted}
-use Rattle.ion.specs.Count.{offsetIn, countOf}
-use Rattle.ion.specs.Order.{orderOf, ionOrder}
-use Rattle.ion.specs.Word.{InRange, wordOf, fieldsOf}
+use Rattle.ion.specs.Pair.Offset.{rawOffset, offsetOf, minutesOf}
+use Rattle.ion.specs.Calendar.Dates.{IsDate, Earlier, dayNumber}
+use Rattle.ion.specs.Pair.Pair.{wordIn}
+use Rattle.ion.specs.Calls.Accepted.{dateIn, Accepted}
+use Rattle.ion.specs.Pair.Count.{offsetIn, countOf}
+use Rattle.ion.specs.Calls.Order.{orderOf, ionOrder}
+use Rattle.ion.specs.Pair.Word.{InRange, wordOf, fieldsOf}
 use Rattle.ion.specs.declared.Date.{Date}
 use Rattle.ion.specs.declared.Fields.{Fields}
 use Rattle.ion.specs.declared.Timestamp.{Timestamp}
 use Rattle.calendar.proofs.Dates.{month-of, day-of, day-number-mono, date-order}
 use Rattle.timestamp.proofs.Valid.{valid-in-range, accepted-word}
 use Rattle.order.specs.Counts.{orderOfPairs}
-use Rattle.order.specs.Local.{IsLocal, utcSeconds}
+use Rattle.order.specs.Local.{IsLocalFields, utcSeconds}
 use Rattle.order.proofs.Orders.{order-less, order-more, order-same, order-alike, order-shift, pairs-alike}
 use Rattle.order.proofs.Differences.{digits-alike}
 use Rattle.order.proofs.Clocks.{valid-local, utc-parts, order-by}
@@ -80,7 +80,7 @@ low-word f h = omega arith
 same-low : (v w : ℕ) → v % 2 ^ 24 ≡ w % 2 ^ 24 → orderOf v w ≡ orderOf (v / 2 ^ 24) (w / 2 ^ 24)
 same-low v w e = order-alike v w (v / 2 ^ 24) (w / 2 ^ 24) (λ h. omega arith) (λ h. omega arith) (λ h. omega arith)
 
-module _ (f g : Fields) (p : IsLocal f) (q : IsLocal g) where
+module _ (f g : Fields) (p : IsLocalFields f) (q : IsLocalFields g) where
   hours-alike : orderOf (hourWord f) (hourWord g) ≡ orderOf (hoursIn f) (hoursIn g)
   hours-alike =
       let h = p .time .hours in
@@ -120,7 +120,7 @@ module _ (s t : Timestamp) (p : Accepted s) (q : Accepted t) (e : fieldsOf (word
   cut-alike : orderOf (wordIn s / 2 ^ 24) (wordIn t / 2 ^ 24) ≡ orderOf (utcSeconds (fieldsOf (wordIn s))) (utcSeconds (fieldsOf (wordIn t)))
   cut-alike =
       ap₂ orderOf (cut-word p) (cut-word q)
-      ∙ offset-alike (fieldsOf (wordIn s)) (fieldsOf (wordIn t)) (valid-local (p .fields)) (valid-local (q .fields)) (ap (λ (n : ℕ). minutesOf (offsetOf (rawIs n))) e)
+      ∙ offset-alike (fieldsOf (wordIn s)) (fieldsOf (wordIn t)) (valid-local (p .fields)) (valid-local (q .fields)) (ap (λ (n : ℕ). minutesOf (offsetOf (rawOffset n))) e)
 
   pub cut-order : orderOfPairs (wordIn s / 2 ^ 24) (s .attoseconds) (wordIn t / 2 ^ 24) (t .attoseconds) ≡ orderOf (countOf s) (countOf t)
   unfolding countOf

@@ -2,7 +2,7 @@
 use Prim.Native.Nat.{ℕ, _/_, _%_, _^_}
 use mathlib.Core.Bool.{Bool}
 use lib.IntN.{ℤ}
-use Rattle.ion.specs.Order.{orderOf, sizeOfDifference}
+use Rattle.ion.specs.Calls.Order.{orderOf, sizeOfDifference}
 use Rattle.ion.specs.declared.Ordered.{Ordered}
 use Rattle.ion.specs.declared.Compared.{Compared}
 use Rattle.ion.specs.declared.Distance.{Distance}

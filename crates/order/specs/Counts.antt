@@ -3,7 +3,7 @@ use Prim.Native.Nat.{ℕ}
 use mathlib.Core.Bool.{cond}
 use lib.Dec.{eqb}
 use lib.IntN.{ℤ}
-use Rattle.ion.specs.Order.{orderOf}
+use Rattle.ion.specs.Calls.Order.{orderOf}
 
 -- by the first numbers, then by the second
 abbrev pub orderOfPairs : ℕ → ℕ → ℕ → ℕ → ℤ

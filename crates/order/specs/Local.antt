@@ -2,14 +2,14 @@
 use Prim.Native.Nat.{ℕ, _+_, _*_, _≤_, _<_}
 use lib.IntN.{ℤ, pos, negℤ, natAbs, _-ℤ_}
 use Rattle.integers.specs.Floor.{_plus_}
-use Rattle.ion.specs.Shift.{IsDateTime, minuteNumber}
-use Rattle.ion.specs.Accepted.{timeIn}
-use Rattle.ion.specs.Count.{attosecondsIn, offsetIn}
+use Rattle.ion.specs.Calendar.Shift.{IsDateTime, minuteNumber}
+use Rattle.ion.specs.Calls.Accepted.{timeIn}
+use Rattle.ion.specs.Pair.Count.{attosecondsIn, offsetIn}
 use Rattle.ion.specs.declared.Fields.{Fields}
 use Rattle.order.specs.declared.seconds.Seconds.{Seconds}
 
 -- what the order needs of the fields of an accepted timestamp
-pub record IsLocal (f : Fields) : Type 0 where
+pub record IsLocalFields (f : Fields) : Type 0 where
   pub time : IsDateTime (timeIn f)
   pub from-year : 1 ≤ f .year
   pub to-year : f .year ≤ 9999
@@ -25,12 +25,12 @@ abbrev pub utcSeconds : Fields → ℕ
 utcSeconds f = secondsAt f (negℤ (offsetIn f))
 
 -- how many minutes the local clock of the first is ahead of that of the second
-abbrev pub aheadOf : Fields → Fields → ℤ
-aheadOf f g = offsetIn f -ℤ offsetIn g
+abbrev pub offsetDifference : Fields → Fields → ℤ
+offsetDifference f g = offsetIn f -ℤ offsetIn g
 
 -- the whole seconds of the two by the local clock of the first
-abbrev pub bySameClock : Fields → Fields → Seconds
-bySameClock f g = record { first = secondsAt f (pos 0); second = secondsAt g (aheadOf f g) }
+abbrev pub secondsOfBoth : Fields → Fields → Seconds
+secondsOfBoth f g = record { first = secondsAt f (pos 0); second = secondsAt g (offsetDifference f g) }
 
 -- attoseconds from 0000-01-01T00:00 by the local clock
 abbrev pub localCount : Fields → ℕ → ℕ

@@ -1,13 +1,13 @@
 // Order and distance of the instants of two accepted timestamps.
 use crate::counts::distance_of_counts;
 use crate::counts::order_of_pairs;
-use crate::seconds::by_same_clock;
+use crate::seconds::seconds_of_both;
 use ion::Distance;
 use ion::Timestamp;
 ghost use mathlib.Core.Path.{_≡_};
-ghost use Rattle.ion.specs.Accepted.{Accepted};
-ghost use Rattle.ion.specs.Count.{countOf};
-ghost use Rattle.ion.specs.Order.{orderOf};
+ghost use Rattle.ion.specs.Calls.Accepted.{Accepted};
+ghost use Rattle.ion.specs.Pair.Count.{countOf};
+ghost use Rattle.ion.specs.Calls.Order.{orderOf};
 ghost use Rattle.order.specs.Answers.{distanceOfCounts};
 
 // -1, 0 or 1. With the same offset no day is counted: the words above their precision lie as the instants do.
@@ -22,7 +22,7 @@ pub(crate) fn order_of(s: Timestamp, t: Timestamp) -> i32
     if o.bits() == p.bits() {
         return order_of_pairs(v >> 24, s.attoseconds, w >> 24, t.attoseconds);
     }
-    let seconds = by_same_clock(s, t);
+    let seconds = seconds_of_both(s, t);
     order_of_pairs(seconds.first, s.attoseconds, seconds.second, t.attoseconds)
 }
 
@@ -30,6 +30,6 @@ pub(crate) fn distance_of(s: Timestamp, t: Timestamp) -> Distance
     requires { ⌜ Accepted s × Accepted t ⌝ }
     ensures { λ r. ⌜ r ≡ distanceOfCounts (countOf s) (countOf t) ⌝ }
 {
-    let seconds = by_same_clock(s, t);
+    let seconds = seconds_of_both(s, t);
     distance_of_counts(seconds.first, s.attoseconds, seconds.second, t.attoseconds)
 }

@@ -3,7 +3,7 @@ use ion::Distance;
 use ion::MAX_ATTOSECONDS;
 ghost use mathlib.Core.Path.{_≡_};
 ghost use Prim.Native.Nat.{_+_, _*_, _^_, _≤_, _<_};
-ghost use Rattle.ion.specs.Order.{sizeOfDifference};
+ghost use Rattle.ion.specs.Calls.Order.{sizeOfDifference};
 ghost use Rattle.order.specs.Answers.{distant, distanceOfCounts};
 ghost use Rattle.order.specs.Counts.{orderOfPairs};
 

@@ -11,17 +11,17 @@ use ion::Distance;
 use ion::Ordered;
 use ion::Timestamp;
 ghost use mathlib.Core.Path.{_≡_};
-ghost use Rattle.ion.specs.Order.{numberOfTwo, cmpOf, eqOf, ionEqOf, ionCmpOf, distanceOf};
+ghost use Rattle.ion.specs.Calls.Order.{checkBoth, cmpOf, eqOf, ionEqOf, ionCmpOf, distanceOf};
 
 // The first number of the two checks that is not 0.
-fn number_of_two(s: Timestamp, t: Timestamp) -> u32
-    ensures { λ r. ⌜ r ≡ numberOfTwo s t ⌝ }
+fn check_both(s: Timestamp, t: Timestamp) -> u32
+    ensures { λ r. ⌜ r ≡ checkBoth s t ⌝ }
 {
     if !timestamp::is_accepted(s) {
-        return timestamp::number_of(s);
+        return timestamp::check_number(s);
     }
     if !timestamp::is_accepted(t) {
-        return timestamp::number_of(t);
+        return timestamp::check_number(t);
     }
     0
 }
@@ -30,7 +30,7 @@ fn number_of_two(s: Timestamp, t: Timestamp) -> u32
 pub fn cmp(s: Timestamp, t: Timestamp) -> Ordered
     ensures { λ r. ⌜ r ≡ cmpOf s t ⌝ }
 {
-    let n = number_of_two(s, t);
+    let n = check_both(s, t);
     if n != 0 {
         return Ordered {
             number: n,
@@ -47,7 +47,7 @@ pub fn cmp(s: Timestamp, t: Timestamp) -> Ordered
 pub fn eq(s: Timestamp, t: Timestamp) -> Compared
     ensures { λ r. ⌜ r ≡ eqOf s t ⌝ }
 {
-    let n = number_of_two(s, t);
+    let n = check_both(s, t);
     if n != 0 {
         return Compared {
             number: n,
@@ -64,7 +64,7 @@ pub fn eq(s: Timestamp, t: Timestamp) -> Compared
 pub fn ion_eq(s: Timestamp, t: Timestamp) -> Compared
     ensures { λ r. ⌜ r ≡ ionEqOf s t ⌝ }
 {
-    let n = number_of_two(s, t);
+    let n = check_both(s, t);
     if n != 0 {
         return Compared {
             number: n,
@@ -81,7 +81,7 @@ pub fn ion_eq(s: Timestamp, t: Timestamp) -> Compared
 pub fn ion_cmp(s: Timestamp, t: Timestamp) -> Ordered
     ensures { λ r. ⌜ r ≡ ionCmpOf s t ⌝ }
 {
-    let n = number_of_two(s, t);
+    let n = check_both(s, t);
     if n != 0 {
         return Ordered {
             number: n,
@@ -100,7 +100,7 @@ pub fn ion_cmp(s: Timestamp, t: Timestamp) -> Ordered
 pub fn distance(s: Timestamp, t: Timestamp) -> Distance
     ensures { λ r. ⌜ r ≡ distanceOf s t ⌝ }
 {
-    let n = number_of_two(s, t);
+    let n = check_both(s, t);
     if n != 0 {
         return Distance {
             number: n,

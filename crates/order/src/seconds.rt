@@ -6,11 +6,11 @@ use ion::offset;
 ghost use mathlib.Core.Path.{_≡_};
 ghost use Prim.Native.Nat.{_^_, _<_};
 ghost use lib.IntN.{natAbs};
-ghost use Rattle.ion.specs.Accepted.{timeIn, Accepted};
-ghost use Rattle.ion.specs.Pair.{wordIn};
-ghost use Rattle.ion.specs.Shift.{minuteNumber};
-ghost use Rattle.ion.specs.Word.{fieldsOf};
-ghost use Rattle.order.specs.Local.{IsLocal, secondsAt, aheadOf, bySameClock};
+ghost use Rattle.ion.specs.Calls.Accepted.{timeIn, Accepted};
+ghost use Rattle.ion.specs.Pair.Pair.{wordIn};
+ghost use Rattle.ion.specs.Calendar.Shift.{minuteNumber};
+ghost use Rattle.ion.specs.Pair.Word.{fieldsOf};
+ghost use Rattle.order.specs.Local.{IsLocalFields, secondsAt, offsetDifference, secondsOfBoth};
 
 // Those of a first and of a second timestamp.
 pub(crate) struct Seconds {
@@ -20,7 +20,7 @@ pub(crate) struct Seconds {
 
 // Minutes from 0000-01-01T00:00 by the local clock.
 fn minute_number(f: Fields) -> u64
-    requires { ⌜ IsLocal f ⌝ }
+    requires { ⌜ IsLocalFields f ⌝ }
     ensures { λ r. ⌜ (r ≡ minuteNumber (timeIn f)) × (r < 2 ^ 33) ⌝ }
 {
     let date = Date {
@@ -32,18 +32,18 @@ fn minute_number(f: Fields) -> u64
 }
 
 // How many minutes the local clock of the first is ahead of that of the second.
-fn ahead_of(f: Fields, g: Fields) -> i32
-    requires { ⌜ IsLocal f × IsLocal g ⌝ }
-    ensures { λ r. ⌜ r ≡ aheadOf f g ⌝ }
+fn offset_difference(f: Fields, g: Fields) -> i32
+    requires { ⌜ IsLocalFields f × IsLocalFields g ⌝ }
+    ensures { λ r. ⌜ r ≡ offsetDifference f g ⌝ }
 {
     let o = offset::minutes_of(offset::offset_of(f.offset));
     let p = offset::minutes_of(offset::offset_of(g.offset));
-    o.less(p)
+    o.minus(p)
 }
 
 // Whole seconds by a clock that is a number of minutes ahead of the local one.
 fn seconds_at(f: Fields, ahead: i32) -> u64
-    requires { ⌜ IsLocal f × (natAbs ahead < 2880) ⌝ }
+    requires { ⌜ IsLocalFields f × (natAbs ahead < 2880) ⌝ }
     ensures { λ r. ⌜ r ≡ secondsAt f ahead ⌝ }
 {
     let minutes = (minute_number(f) as i64 + ahead as i64) as u64;
@@ -51,13 +51,13 @@ fn seconds_at(f: Fields, ahead: i32) -> u64
 }
 
 // Those of two accepted timestamps, by the local clock of the first.
-pub(crate) fn by_same_clock(s: Timestamp, t: Timestamp) -> Seconds
+pub(crate) fn seconds_of_both(s: Timestamp, t: Timestamp) -> Seconds
     requires { ⌜ Accepted s × Accepted t ⌝ }
-    ensures { λ r. ⌜ r ≡ bySameClock (fieldsOf (wordIn s)) (fieldsOf (wordIn t)) ⌝ }
+    ensures { λ r. ⌜ r ≡ secondsOfBoth (fieldsOf (wordIn s)) (fieldsOf (wordIn t)) ⌝ }
 {
     let f = packed::unpack(s.packed_fields);
     let g = packed::unpack(t.packed_fields);
-    let ahead = ahead_of(f, g);
+    let ahead = offset_difference(f, g);
     Seconds {
         first: seconds_at(f, 0),
         second: seconds_at(g, ahead),

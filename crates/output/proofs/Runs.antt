@@ -5,7 +5,7 @@ use Prim.Native.Nat.{ℕ, _+_, _≤_}
 use native.Mathlib.Nat.{add-zero}
 use native.Mathlib.Omega.{arith}
 use lib.ListN.{length, length-append, take, take-append-drop}
-use Rattle.ion.specs.Output.{over, Run}
+use Rattle.ion.specs.Calls.Output.{over, Run}
 use Rattle.output.proofs.Stores.{take-over, over-over}
 
 pub run-none : (d : List ℕ) (at : ℕ) → Run d at [] d at

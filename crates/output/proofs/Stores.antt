@@ -10,8 +10,8 @@ use lib.ListN.{length, take, drop, set, getD, length-append, length-drop, take-a
 use lib.Seq.{take-at, drop-at, drop-drop, length-take-le, paste, paste-suc, take-length}
 use Rattle.places.specs.Places.{placesOn, places}
 use Rattle.places.proofs.Laws.{places-append, length-places}
-use Rattle.ion.specs.Output.{over, put, roomFor, wrote, putAfter, wroteAfter, refusedWriting}
-use Rattle.ion.specs.Refusal.{shortBuffer}
+use Rattle.ion.specs.Calls.Output.{over, put, roomFor, wrote, putAfter, wroteAfter, refusedWriting}
+use Rattle.ion.specs.Calls.Refusal.{shortBuffer}
 use Rattle.ion.specs.declared.Written.{Written}
 
 -- ---- a writer's answer and its buffer

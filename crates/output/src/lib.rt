@@ -4,10 +4,10 @@ use ion::refusal;
 ghost use mathlib.Core.Path.{_≡_};
 ghost use Prim.Native.Nat.{_+_, _≤_};
 ghost use lib.ListN.{length};
-ghost use Rattle.ion.specs.Output.{over, put, roomFor, wrote};
+ghost use Rattle.ion.specs.Calls.Output.{over, put, roomFor, wrote};
 
 // What a writer of `n` bytes from index `at` on answers, in a buffer of `size` bytes.
-pub fn room(size: usize, at: usize, n: usize) -> Written
+pub fn room_for(size: usize, at: usize, n: usize) -> Written
     ensures { λ r. ⌜ r ≡ roomFor size at n ⌝ }
 {
     if size < at {
@@ -44,7 +44,7 @@ pub fn copy_in(buf: &mut [u8], at: usize, src: &[u8])
 pub fn put_bytes(buf: &mut [u8], at: usize, src: &[u8]) -> Written
     ensures { λ r. ⌜ (r ≡ wrote (now (buf .entry)) at (now (src .entry))) × (now (buf .exit) ≡ put (now (buf .entry)) at (now (src .entry))) ⌝ }
 {
-    let answer = room(buf.len(), at, src.len());
+    let answer = room_for(buf.len(), at, src.len());
     if answer.number != 0 {
         return answer;
     }

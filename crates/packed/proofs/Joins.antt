@@ -9,7 +9,7 @@ use native.Mathlib.Omega.{arith}
 use lib.Dec.{lit<}
 use lib.Arith.{digits-lt}
 use lib.Pow.{pow-add, high, low, mod-pow-add}
-use Rattle.ion.specs.Layout.{total, join, parts, fieldAt, Within, Before}
+use Rattle.ion.specs.Pair.Layout.{total, join, parts, fieldAt, Within, Before}
 
 -- the field of k bits between what stands above it and s bits below
 field-at : (hi x lo s k : ℕ) → x < 2 ^ k → lo < 2 ^ s → fieldAt s k ((hi * 2 ^ k + x) * 2 ^ s + lo) ≡ x

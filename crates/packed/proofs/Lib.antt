@@ -1,5 +1,5 @@
 -- The laws of the packed word, for its own proofs and for the crates above. Assumes nothing.
 pub mod Joins
 pub mod Limits
-pub mod Ors
+pub mod Assembly
 pub mod Words

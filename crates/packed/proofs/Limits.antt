@@ -9,7 +9,7 @@ use native.Mathlib.Omega.{arith}
 use lib.Arith.{digits-lt}
 use lib.Pow.{pow-pos, pow-add, split, add-lt-pow, suc-ones}
 use lib.Bits.{bitAnd, and-zero-r, and-comm, and-self, and-mask, and-shifted, and-block}
-use Rattle.ion.specs.Layout.{fieldAt}
+use Rattle.ion.specs.Pair.Layout.{fieldAt}
 
 -- a field: how many bits, but for one, are masked out above it, its width, and its largest value
 pub record Limited : Type 0 where
@@ -40,9 +40,9 @@ Fits [] = Unit
 Fits (x ∷ l) = (x .limit < 2 ^ x .width) × Fits l
 
 -- every field is at most its limit
-abbrev pub Within : ℕ → List Limited → ℕ → Type 0
-Within b [] w = Unit
-Within b (x ∷ l) w = (fieldAt (size b l) (x .width) w ≤ x .limit) × Within b l w
+abbrev pub WithinLimits : ℕ → List Limited → ℕ → Type 0
+WithinLimits b [] w = Unit
+WithinLimits b (x ∷ l) w = (fieldAt (size b l) (x .width) w ≤ x .limit) × WithinLimits b l w
 
 -- ---- sizes
 
@@ -118,7 +118,7 @@ bit-set n k h l =
     ∙ omega arith
 
 -- where no bit is beyond, every field is at most its limit, and the other way round
-pub beyond-within : (b : ℕ) (l : List Limited) (w : ℕ) → Fits l → beyond b l w ≡ 0 → Within b l w
+pub beyond-within : (b : ℕ) (l : List Limited) (w : ℕ) → Fits l → beyond b l w ≡ 0 → WithinLimits b l w
 beyond-within b [] w f e = tt
 beyond-within b (x ∷ l) w f e =
     let z : bitAnd (raised (size b l) x w) (2 ^ x .width) * 2 ^ size b l + beyond b l w ≡ 0 = sym (beyond-step b x l w) ∙ e in
@@ -130,7 +130,7 @@ beyond-within b (x ∷ l) w f e =
         let s = bit-set (raised (size b l) x w) (x .width) (omega (arith, f .0)) (raised-lt (size b l) x w) in
         absurd (let y : 2 ^ x .width * 2 ^ size b l + beyond b l w ≡ 0 = ap (λ (m : ℕ). m * 2 ^ size b l + beyond b l w) (sym s) ∙ z in omega (arith, y, pow-pos (x .width + size b l), pow-add 2 (x .width) (size b l)))
 
-pub within-beyond : (b : ℕ) (l : List Limited) (w : ℕ) → Fits l → Within b l w → beyond b l w ≡ 0
+pub within-beyond : (b : ℕ) (l : List Limited) (w : ℕ) → Fits l → WithinLimits b l w → beyond b l w ≡ 0
 within-beyond b [] w f h = and-zero-r (bitAnd w 0 + 0)
 within-beyond b (x ∷ l) w f h =
     beyond-step b x l w

@@ -4,8 +4,8 @@ use Prim.Native.Nat.{ℕ, _%_, _^_, _<_}
 use native.Mathlib.Nat.{mod-eq-of-lt}
 use native.Mathlib.Omega.{arith}
 use lib.ListN.{set}
-use Rattle.ion.specs.Layout.{join, parts, fieldAt, Before}
-use Rattle.ion.specs.Word.{widths, valuesOf, fromValues, InRange, wordOf, fieldsOf}
+use Rattle.ion.specs.Pair.Layout.{join, parts, fieldAt, Before}
+use Rattle.ion.specs.Pair.Word.{widths, valuesOf, fromValues, InRange, wordOf, fieldsOf}
 use Rattle.ion.specs.declared.Fields.{Fields}
 use Rattle.packed.proofs.Joins.{parts-join, join-parts, join-lt, join-before, before-join}
 

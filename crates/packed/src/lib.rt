@@ -3,9 +3,9 @@ use ion::Fields;
 use ion::offset::RawOffset;
 ghost use mathlib.Core.Path.{_≡_};
 ghost use Prim.Native.Nat.{_<_};
-ghost use Rattle.ion.specs.Layout.{fieldAt};
-ghost use Rattle.ion.specs.Offset.{rawIs};
-ghost use Rattle.ion.specs.Word.{InRange, wordOf, fieldsOf};
+ghost use Rattle.ion.specs.Pair.Layout.{fieldAt};
+ghost use Rattle.ion.specs.Pair.Offset.{rawOffset};
+ghost use Rattle.ion.specs.Pair.Word.{InRange, wordOf, fieldsOf};
 
 pub fn pack(f: Fields) -> u64
     requires { ⌜ InRange f ⌝ }
@@ -80,7 +80,7 @@ pub fn digits(w: u64) -> u32
 }
 
 pub fn raw_offset(w: u64) -> RawOffset
-    ensures { λ r. ⌜ r ≡ rawIs (fieldAt 4 12 w) ⌝ }
+    ensures { λ r. ⌜ r ≡ rawOffset (fieldAt 4 12 w) ⌝ }
 {
     RawOffset::new(field(w, 4, 12) as u16)
 }

@@ -10,8 +10,8 @@ use lib.ListN.{length, take, drop, length-drop, replicate, replicate-append-repl
 use lib.Seq.{take-at, drop-at, drop-drop, drop-append-le, length-take-le}
 use Rattle.places.specs.Places.{placesOn, places, valueFrom}
 use Rattle.places.proofs.Laws.{length-places, held, fewest, places-append, places-add, places-mod, drop-places, value-places}
-use Rattle.ion.specs.Padded.{digit, lastDigits, digitCount, padded}
-use Rattle.ion.specs.Output.{over}
+use Rattle.ion.specs.Numbers.Padded.{digit, lastDigits, digitCount, padded}
+use Rattle.ion.specs.Calls.Output.{over}
 
 pub length-padded : (w n : ℕ) → length (padded w n) ≡ max w (digitCount n)
 unfolding padded

@@ -3,8 +3,8 @@ use ion::Written;
 ghost use mathlib.Core.Path.{_≡_};
 ghost use Prim.Native.Nat.{_+_, _≤_, _<_, max};
 ghost use lib.ListN.{length};
-ghost use Rattle.ion.specs.Output.{over, put, wrote, Run};
-ghost use Rattle.ion.specs.Padded.{lastDigits, digitCount, padded};
+ghost use Rattle.ion.specs.Calls.Output.{over, put, wrote, Run};
+ghost use Rattle.ion.specs.Numbers.Padded.{lastDigits, digitCount, padded};
 
 // How many digits `value` has.
 fn digit_count(value: u64) -> usize
@@ -46,7 +46,7 @@ pub fn write_zero_padded(buf: &mut [u8], at: usize, value: u64, width: usize) ->
     ensures { λ r. ⌜ (r ≡ wrote (now (buf .entry)) at (padded width value)) × (now (buf .exit) ≡ put (now (buf .entry)) at (padded width value)) ⌝ }
 {
     let n = padded_count(value, width);
-    let answer = output::room(buf.len(), at, n);
+    let answer = output::room_for(buf.len(), at, n);
     if answer.number != 0 {
         return answer;
     }

@@ -3,11 +3,11 @@
 use mathlib.Core.Path.{_≡_, sym, ap, _∙_}
 use Prim.Native.Nat.{ℕ}
 use lib.IntN.{pos}
-use Rattle.ion.specs.Accepted.{Valid, Accepted}
-use Rattle.ion.specs.Count.{countOf}
+use Rattle.ion.specs.Calls.Accepted.{Valid, Accepted}
+use Rattle.ion.specs.Pair.Count.{countOf}
 use Rattle.ion.specs.declared.Fields.{Fields}
 use Rattle.ion.specs.declared.Timestamp.{Timestamp}
-use Rattle.timestamp.proofs.Given.{given-same}
+use Rattle.timestamp.proofs.CheckedFields.{given-same}
 use Rattle.order.proofs.Instants.{count-is}
 use Rattle.theorem.specs.TwoStamps.{withFirstValues, utcCountIn, utcCount}
 

@@ -5,7 +5,7 @@ use native.Mathlib.Omega.{arith}
 use native.Mathlib.Decide.{decLt}
 use lib.IntN.{ℤ, pos, negsuc, _-ℤ_}
 use Rattle.integers.proofs.Parts.{up, down, sub-parts, parts-eq}
-use Rattle.ion.specs.Order.{orderOf}
+use Rattle.ion.specs.Calls.Order.{orderOf}
 use Rattle.order.proofs.Orders.{order-less, order-more, order-same}
 use Rattle.theorem.specs.TwoStamps.{SignOf, below, none, above}
 

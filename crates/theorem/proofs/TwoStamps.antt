@@ -6,16 +6,16 @@ use mathlib.Core.List.{List, [], _++_, append-nil}
 use Prim.Native.Nat.{ℕ}
 use borrow.Author.Tests.{eq-eqb, eqb-true}
 use lib.IntN.{pos, natAbs, _-ℤ_}
-use Rattle.ion.specs.Pair.{wordIn}
-use Rattle.ion.specs.Build.{buildOf}
-use Rattle.ion.specs.Stages.{Stage, Gives}
-use Rattle.ion.specs.Check.{checkOf}
-use Rattle.ion.specs.Accepted.{Accepted}
-use Rattle.ion.specs.Count.{countOf}
-use Rattle.ion.specs.Order.{numberOfTwo, cmpOf, eqOf, distanceOf}
-use Rattle.ion.specs.Text.{textOf}
-use Rattle.ion.specs.Value.{valueOf}
-use Rattle.ion.specs.ReadValue.{readOf}
+use Rattle.ion.specs.Pair.Pair.{wordIn}
+use Rattle.ion.specs.Calls.Build.{buildOf}
+use Rattle.ion.specs.Calls.Stages.{Stage, Gives}
+use Rattle.ion.specs.Calls.Check.{checkOf}
+use Rattle.ion.specs.Calls.Accepted.{Accepted}
+use Rattle.ion.specs.Pair.Count.{countOf}
+use Rattle.ion.specs.Calls.Order.{checkBoth, cmpOf, eqOf, distanceOf}
+use Rattle.ion.specs.Text.Format.{textOf}
+use Rattle.ion.specs.Value.Encode.{valueOf}
+use Rattle.ion.specs.Value.ReadValue.{readValue}
 use Rattle.ion.specs.declared.BuilderFields.{BuilderFields}
 use Rattle.ion.specs.declared.Timestamp.{Timestamp}
 use Rattle.ion.specs.declared.Read.{Read}
@@ -38,10 +38,10 @@ module _ (s : Timestamp) (p : Accepted s) where
   pair-stamp = ap (λ (x : Built). x .stamp) (check-accepts s p)
 
   -- what is read of the value with any bytes after it
-  value-stamp : (r : List ℕ) → readOf (valueOf s ++ r) .stamp ≡ s
+  value-stamp : (r : List ℕ) → readValue (valueOf s ++ r) .stamp ≡ s
   value-stamp r = ap (λ (x : Read). x .stamp) (values.value-back s p r)
 
-  value-number : (r : List ℕ) → readOf (valueOf s ++ r) .number ≡ 0
+  value-number : (r : List ℕ) → readValue (valueOf s ++ r) .number ≡ 0
   value-number r = ap (λ (x : Read). x .number) (values.value-back s p r)
 
 not-same : (s t : Timestamp) → Differ s t → s ≡ t → ⊥
@@ -51,7 +51,7 @@ beginning-same : (s t : Timestamp) → Accepted s → Accepted t → (r : List �
 beginning-same s t p q r e = value-apart s t p q r [] (e ∙ sym (append-nil (valueOf t)))
 
 module _ (a b : Timestamp) (p : Accepted a) (q : Accepted b) where
-  both : numberOfTwo a b ≡ 0
+  both : checkBoth a b ≡ 0
   both = both-zero a b p q
 
   distance : IsDistance a b (distanceOf a b)

@@ -6,18 +6,18 @@ use mathlib.Core.List.{List, _++_}
 use Prim.Native.Nat.{ℕ, _+_, _*_, _^_, _≤_, _<_}
 use lib.IntN.{ℤ, pos, negsuc, natAbs, _-ℤ_, _*ℤ_}
 use lib.ListN.{length, take, drop}
-use Rattle.ion.specs.Pair.{wordIn}
-use Rattle.ion.specs.Word.{fieldsOf}
-use Rattle.ion.specs.Output.{over, putAfter, wroteAfter}
-use Rattle.ion.specs.Shift.{minuteNumber}
-use Rattle.ion.specs.Build.{accepted}
-use Rattle.ion.specs.Check.{givenAt, checkOf}
-use Rattle.ion.specs.Accepted.{timeIn}
-use Rattle.ion.specs.Count.{attosecondsIn, offsetIn, countOf}
-use Rattle.ion.specs.Order.{cmpOf, eqOf, distanceOf}
-use Rattle.ion.specs.Text.{textOf}
-use Rattle.ion.specs.Value.{valueOf}
-use Rattle.ion.specs.ReadValue.{acceptedReading, readOf}
+use Rattle.ion.specs.Pair.Pair.{wordIn}
+use Rattle.ion.specs.Pair.Word.{fieldsOf}
+use Rattle.ion.specs.Calls.Output.{over, putAfter, wroteAfter}
+use Rattle.ion.specs.Calendar.Shift.{minuteNumber}
+use Rattle.ion.specs.Calls.Build.{acceptedBuild}
+use Rattle.ion.specs.Calls.Check.{givenAt, checkOf, checkNumber}
+use Rattle.ion.specs.Calls.Accepted.{timeIn}
+use Rattle.ion.specs.Pair.Count.{attosecondsIn, offsetIn, countOf}
+use Rattle.ion.specs.Calls.Order.{cmpOf, eqOf, distanceOf}
+use Rattle.ion.specs.Text.Format.{textOf}
+use Rattle.ion.specs.Value.Encode.{valueOf}
+use Rattle.ion.specs.Value.ReadValue.{acceptedReading, readValue}
 use Rattle.ion.specs.declared.Timestamp.{Timestamp}
 use Rattle.ion.specs.declared.Fields.{Fields}
 
@@ -57,16 +57,16 @@ Differ a b = (wordIn a ≡ wordIn b → ⊥) ⊎ (a .attoseconds ≡ b .attoseco
 abbrev pub Writes : Timestamp → List ℕ → Type 0
 Writes s b =
     (d : List ℕ) (at : ℕ) → at + length b ≤ length d
-    → (wroteAfter (checkOf s .number) d at b ≡ record { number = 0; written = length b })
-    × (putAfter (checkOf s .number) d at b ≡ over d at b)
+    → (wroteAfter (checkNumber s) d at b ≡ record { number = 0; written = length b })
+    × (putAfter (checkNumber s) d at b ≡ over d at b)
 
 -- what the value writer wrote, answering 0, is read back with any bytes or none after it: the pair, and as many taken as were written
 abbrev pub ReadsBack : Timestamp → Type 0
 ReadsBack s =
     (d : List ℕ) (at : ℕ) (r : List ℕ)
-    → let w = wroteAfter (checkOf s .number) d at (valueOf s) in
-    let e = putAfter (checkOf s .number) d at (valueOf s) in
-    w .number ≡ 0 → readOf (take (w .written) (drop at e) ++ r) ≡ acceptedReading s (w .written)
+    → let w = wroteAfter (checkNumber s) d at (valueOf s) in
+    let e = putAfter (checkNumber s) d at (valueOf s) in
+    w .number ≡ 0 → readValue (take (w .written) (drop at e) ++ r) ≡ acceptedReading s (w .written)
 
 pub record TwoStamps (a b : Timestamp) : Type 0 where
   -- distance, `cmp` and `==` follow the UTC attosecond counts exactly
@@ -80,17 +80,17 @@ pub record TwoStamps (a b : Timestamp) : Type 0 where
   pub eq-accepted : eqOf a b .number ≡ 0
   pub eq-exact : (eqOf a b .equal ≡ true → utcCount a ≡ utcCount b) × (utcCount a ≡ utcCount b → eqOf a b .equal ≡ true)
   -- through the packed pair and back
-  pub pair-back : (checkOf a ≡ accepted a) × (checkOf b ≡ accepted b)
+  pub pair-back : (checkOf a ≡ acceptedBuild a) × (checkOf b ≡ acceptedBuild b)
   -- through the value bytes and back, with whatever bytes after them
   pub value-back : ReadsBack a × ReadsBack b
   -- and then the same answers
   pub same-by-pair : (distanceOf (checkOf a .stamp) (checkOf b .stamp) ≡ distanceOf a b)
       × (cmpOf (checkOf a .stamp) (checkOf b .stamp) ≡ cmpOf a b)
       × (eqOf (checkOf a .stamp) (checkOf b .stamp) ≡ eqOf a b)
-  pub same-by-value : (d e : List ℕ) → (readOf (valueOf a ++ d) .number ≡ 0) × (readOf (valueOf b ++ e) .number ≡ 0)
-      × (distanceOf (readOf (valueOf a ++ d) .stamp) (readOf (valueOf b ++ e) .stamp) ≡ distanceOf a b)
-      × (cmpOf (readOf (valueOf a ++ d) .stamp) (readOf (valueOf b ++ e) .stamp) ≡ cmpOf a b)
-      × (eqOf (readOf (valueOf a ++ d) .stamp) (readOf (valueOf b ++ e) .stamp) ≡ eqOf a b)
+  pub same-by-value : (d e : List ℕ) → (readValue (valueOf a ++ d) .number ≡ 0) × (readValue (valueOf b ++ e) .number ≡ 0)
+      × (distanceOf (readValue (valueOf a ++ d) .stamp) (readValue (valueOf b ++ e) .stamp) ≡ distanceOf a b)
+      × (cmpOf (readValue (valueOf a ++ d) .stamp) (readValue (valueOf b ++ e) .stamp) ≡ cmpOf a b)
+      × (eqOf (readValue (valueOf a ++ d) .stamp) (readValue (valueOf b ++ e) .stamp) ≡ eqOf a b)
   -- text and value are what the writers, given room for them, write
   pub texts-written : Writes a (textOf a) × Writes b (textOf b)
   pub values-written : Writes a (valueOf a) × Writes b (valueOf b)

@@ -1,9 +1,8 @@
 pub mod Rebuilt
 pub mod Valid
-pub mod Given
+pub mod CheckedFields
 pub mod Accepts
 pub mod Decides
-pub mod Tested
-pub mod Masked
+pub mod FieldTests
+pub mod WordBounds
 pub mod UtcForm
-pub mod Told

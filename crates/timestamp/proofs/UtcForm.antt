@@ -4,11 +4,11 @@ use Prim.Native.Nat.{ℕ, _≤_, _<_}
 use native.Mathlib.Omega.{arith}
 use lib.IntN.{ℤ, negℤ, natAbs}
 use Rattle.integers.proofs.Signs.{size-neg}
-use Rattle.ion.specs.Shift.{IsDateTime}
-use Rattle.ion.specs.Offset.{WithinDay, rawOf, offsetOf}
-use Rattle.ion.specs.Word.{InRange}
-use Rattle.ion.specs.Accepted.{Valid, dateIn, timeIn}
-use Rattle.ion.specs.Utc.{utcBy, utcFields}
+use Rattle.ion.specs.Calendar.Shift.{IsDateTime}
+use Rattle.ion.specs.Pair.Offset.{WithinDay, rawOf, offsetOf}
+use Rattle.ion.specs.Pair.Word.{InRange}
+use Rattle.ion.specs.Calls.Accepted.{Valid, dateIn, timeIn}
+use Rattle.ion.specs.Calls.Utc.{utcBy, utcFields}
 use Rattle.ion.specs.declared.Fields.{Fields}
 use Rattle.ion.specs.declared.offset.RawOffset.{RawOffset}
 use Rattle.ion.specs.declared.offset.Offset.{Offset}

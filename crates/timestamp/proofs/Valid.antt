@@ -4,13 +4,13 @@ use mathlib.Core.List.{_++_}
 use Prim.Native.Nat.{ℕ, _%_, _<_}
 use native.Mathlib.Nat.{mod-eq-of-lt}
 use native.Mathlib.Omega.{arith}
-use Rattle.ion.specs.Shift.{IsDateTime}
-use Rattle.ion.specs.Offset.{WithinDay, rawOf, offsetOf}
-use Rattle.ion.specs.Word.{InRange, wordOf, fieldsOf}
-use Rattle.ion.specs.Pair.{wordIn, pairIs}
-use Rattle.ion.specs.Fraction.{scale}
-use Rattle.ion.specs.Build.{precisionNumber, ranges, offsetIs, routeChecks, givenTime, localTime, packedOf, numberOf, pairOf}
-use Rattle.ion.specs.Accepted.{Staged, Valid, Accepted, dateIn, timeIn}
+use Rattle.ion.specs.Calendar.Shift.{IsDateTime}
+use Rattle.ion.specs.Pair.Offset.{WithinDay, rawOf, offsetOf}
+use Rattle.ion.specs.Pair.Word.{InRange, wordOf, fieldsOf}
+use Rattle.ion.specs.Pair.Pair.{wordIn, packedPair}
+use Rattle.ion.specs.Pair.Fraction.{scale}
+use Rattle.ion.specs.Calls.Build.{precisionNumber, rangeChecks, offsetGiven, routeChecks, givenTime, localTime, packedOf, buildNumber, buildPair}
+use Rattle.ion.specs.Calls.Accepted.{Staged, Valid, Accepted, dateIn, timeIn}
 use Rattle.ion.specs.declared.DateTime.{DateTime}
 use Rattle.ion.specs.declared.Fields.{Fields}
 use Rattle.ion.specs.declared.BuilderFields.{BuilderFields}
@@ -30,13 +30,13 @@ use Rattle.builder.proofs.Times.{local-is}
 unmoved : (b : BuilderFields) → Staged b → precisionNumber (b .precision) < 3 → localTime b (b .offset) ≡ givenTime b
 unmoved b s k = ap (localTime b) (s .offset k)
 
-pub build-valid : (b : BuilderFields) → Staged b → numberOf b ≡ 0 → Valid (packedOf b (localTime b (b .offset)) (offsetIs (b .offset))) (b .attoseconds)
-unfolding numberOf
+pub build-valid : (b : BuilderFields) → Staged b → buildNumber b ≡ 0 → Valid (packedOf b (localTime b (b .offset)) (offsetGiven (b .offset))) (b .attoseconds)
+unfolding buildNumber
 build-valid b s e =
     let r = routeChecks b (b .offset) in
-    let h = zero-pass (ranges b ++ r) (numbered-append (ranges b) r (ranges-numbered b) (route-numbered b (b .offset))) e in
-    let i = in-bounds b (pass-left (ranges b) r h) in
-    let l = local-is b (b .offset) i (i .offset) (pass-right (ranges b) r h) in
+    let h = zero-pass (rangeChecks b ++ r) (numbered-append (rangeChecks b) r (ranges-numbered b) (route-numbered b (b .offset))) e in
+    let i = in-bounds b (pass-left (rangeChecks b) r h) in
+    let l = local-is b (b .offset) i (i .offset) (pass-right (rangeChecks b) r h) in
     record {
       from-year = l .from-year;
       to-year = l .to-year;
@@ -46,14 +46,14 @@ build-valid b s e =
       second = i .second;
       precision = precision-le (b .precision);
       digits = i .digits;
-      offset = raw-lt (offsetIs (b .offset)) (i .offset);
+      offset = raw-lt (offsetGiven (b .offset)) (i .offset);
       attoseconds = i .attoseconds;
       multiple = s .multiple (i .attoseconds);
       no-month = λ k. ap (λ (t : DateTime). t .month) (unmoved b s (omega arith)) ∙ s .month k;
       no-day = λ k. ap (λ (t : DateTime). t .day) (unmoved b s (omega arith)) ∙ s .day k;
       no-hour = λ k. ap (λ (t : DateTime). t .hour) (unmoved b s k) ∙ s .hour k;
       no-minute = λ k. ap (λ (t : DateTime). t .minute) (unmoved b s k) ∙ s .minute k;
-      no-offset = λ k. ap (λ (o : BuilderOffset). rawOf (offsetIs o) .0) (s .offset k);
+      no-offset = λ k. ap (λ (o : BuilderOffset). rawOf (offsetGiven o) .0) (s .offset k);
       no-second = s .second;
       no-digits = s .digits;
     }
@@ -77,13 +77,13 @@ no-fraction {f} {a} v e = sym (mod-eq-of-lt (v .attoseconds)) ∙ ap (λ (d : �
 
 -- ---- accepted pairs
 
-pub valid-accepted : {f : Fields} {a : ℕ} → Valid f a → Accepted (pairIs (wordOf f) a)
+pub valid-accepted : {f : Fields} {a : ℕ} → Valid f a → Accepted (packedPair (wordOf f) a)
 valid-accepted {f} {a} v =
     let r = valid-in-range v in
     record { fields = subst (λ (g : Fields). Valid g a) (sym (unpack-pack f r)) v; reserved = word-low f r; fits = word-lt f r }
 
-pub build-accepted : (b : BuilderFields) → Staged b → numberOf b ≡ 0 → Accepted (pairOf b)
-unfolding pairOf
+pub build-accepted : (b : BuilderFields) → Staged b → buildNumber b ≡ 0 → Accepted (buildPair b)
+unfolding buildPair
 build-accepted b s e = valid-accepted (build-valid b s e)
 
 -- the word is that of its fields

@@ -9,10 +9,10 @@ ghost use mathlib.Core.Bool.{true, _&&_, _||_};
 ghost use Prim.Native.Nat.{_+_, _%_, _^_, _<_};
 ghost use lib.Bits.{bitAnd};
 ghost use lib.Dec.{eqb, leb, ltb};
-ghost use Rattle.ion.specs.Word.{fieldsOf};
-ghost use Rattle.ion.specs.Fraction.{scale};
-ghost use Rattle.ion.specs.Check.{checkOf};
-ghost use Rattle.ion.specs.Accepted.{Valid};
+ghost use Rattle.ion.specs.Pair.Word.{fieldsOf};
+ghost use Rattle.ion.specs.Pair.Fraction.{scale};
+ghost use Rattle.ion.specs.Calls.Check.{checkNumber};
+ghost use Rattle.ion.specs.Calls.Accepted.{Valid};
 
 // Hour, second and digits: another field stands above each.
 const MASKS: u64 = (31 << 36) | (63 << 24) | (31 << 16);
@@ -111,7 +111,7 @@ fn is_valid(w: u64, attoseconds: u64) -> bool
 
 // Whether the packed check answers 0.
 pub fn is_accepted(s: Timestamp) -> bool
-    ensures { λ r. ⌜ r ≡ eqb (checkOf s .number) 0 ⌝ }
+    ensures { λ r. ⌜ r ≡ eqb (checkNumber s) 0 ⌝ }
 {
     let word = s.packed_fields;
     if word % 16 != 0 {

@@ -12,8 +12,8 @@ use ion::offset::Offset;
 use ion::offset::RawOffset;
 use ion::refusal;
 ghost use mathlib.Core.Path.{_≡_};
-ghost use Rattle.ion.specs.Pair.{pairIs};
-ghost use Rattle.ion.specs.Check.{precisionOf, offsetAt, givenAt, fractionAt, rebuilt, sameAs, checkOf};
+ghost use Rattle.ion.specs.Pair.Pair.{packedPair};
+ghost use Rattle.ion.specs.Calls.Check.{precisionOf, offsetAt, givenAt, fractionAt, rebuilt, sameAs, checkOf, checkNumber};
 
 // A precision by its number; 5 to 7 read as 4.
 fn precision_of(n: u32) -> TimestampPrecision
@@ -133,8 +133,8 @@ pub fn check(s: Timestamp) -> Built
 }
 
 // The number alone.
-pub fn number_of(s: Timestamp) -> u32
-    ensures { λ r. ⌜ r ≡ checkOf s .number ⌝ }
+pub fn check_number(s: Timestamp) -> u32
+    ensures { λ r. ⌜ r ≡ checkNumber s ⌝ }
 {
     let b = check(s);
     b.number
@@ -142,7 +142,7 @@ pub fn number_of(s: Timestamp) -> u32
 
 // The check of the two numbers of a pair.
 pub fn try_from_bits(packed_fields: u64, attoseconds: u64) -> Built
-    ensures { λ r. ⌜ r ≡ checkOf (pairIs «packed_fields» attoseconds) ⌝ }
+    ensures { λ r. ⌜ r ≡ checkOf (packedPair «packed_fields» attoseconds) ⌝ }
 {
     check(Timestamp {
         packed_fields: packed_fields,

@@ -7,27 +7,29 @@ use ion::Timestamp;
 use ion::offset;
 use ion::offset::Offset;
 use ion::offset::OffsetMinutes;
+use ion::offset::RawOffset;
 ghost use mathlib.Core.Path.{_≡_};
 ghost use Prim.Native.Nat.{_≤_};
-ghost use Rattle.ion.specs.Offset.{WithinDay, offsetOf};
-ghost use Rattle.ion.specs.Shift.{IsDateTime};
-ghost use Rattle.ion.specs.Accepted.{timeIn};
-ghost use Rattle.ion.specs.Utc.{utcBy, utcFields, utcOf};
+ghost use Rattle.ion.specs.Pair.Offset.{WithinDay, offsetOf};
+ghost use Rattle.ion.specs.Calendar.Shift.{IsDateTime, shifted};
+ghost use Rattle.ion.specs.Calls.Accepted.{timeIn};
+ghost use Rattle.ion.specs.Calls.Utc.{withTime, utcFields, utcOf};
 
-// The fields with the offset subtracted and marked unknown.
-fn moved_back(f: Fields, m: OffsetMinutes) -> Fields
-    requires { ⌜ IsDateTime (timeIn f) × (f .year ≤ 9999) × WithinDay (Offset.Known m) ⌝ }
-    ensures { λ r. ⌜ r ≡ utcBy (Offset.Known m) f ⌝ }
+// ---- for the crates above that hold fields which are known to be valid
+
+// The fields with their date and time moved by minutes, and with another offset.
+pub fn shifted_fields(f: Fields, m: OffsetMinutes, raw: RawOffset) -> Fields
+    requires { ⌜ IsDateTime (timeIn f) × (f .year ≤ 10000) × WithinDay (Offset.Known m) ⌝ }
+    ensures { λ r. ⌜ r ≡ withTime f (shifted (timeIn f) (m .0)) raw ⌝ }
 {
-    let local = DateTime {
+    let given = DateTime {
         year: f.year,
         month: f.month,
         day: f.day,
         hour: f.hour,
         minute: f.minute,
     };
-    let back = m.negated();
-    let t = calendar::add_offset_to_utc(local, back);
+    let t = calendar::add_offset_to_utc(given, m);
     Fields {
         year: t.year,
         month: t.month,
@@ -37,11 +39,11 @@ fn moved_back(f: Fields, m: OffsetMinutes) -> Fields
         second: f.second,
         precision: f.precision,
         digits: f.digits,
-        offset: offset::raw_of(Offset::Unknown),
+        offset: raw,
     }
 }
 
-// The fields in UTC; an unknown offset changes nothing.
+// The fields in UTC: the offset is subtracted and marked unknown. An unknown offset changes nothing.
 pub fn utc_fields(f: Fields) -> Fields
     requires { ⌜ IsDateTime (timeIn f) × (f .year ≤ 9999) × WithinDay (offsetOf (f .offset)) ⌝ }
     ensures { λ r. ⌜ r ≡ utcFields f ⌝ }
@@ -50,7 +52,7 @@ pub fn utc_fields(f: Fields) -> Fields
     let o = offset::offset_of(raw);
     match o {
         Offset::Unknown => f,
-        Offset::Known(m) => moved_back(f, m),
+        Offset::Known(m) => shifted_fields(f, m.negated(), offset::raw_of(Offset::Unknown)),
     }
 }
 

@@ -10,12 +10,12 @@ use lib.IntN.{ℤ, pos, negsuc, natAbs}
 use lib.ListN.{length, take, drop, length-append}
 use lib.Seq.{drop-at, drop-append-seam}
 use Rattle.places.proofs.Below.{Below, below-take}
-use Rattle.ion.specs.VarUInt.{varuint, groupCount, readVarUInt}
-use Rattle.ion.specs.VarInt.{signed, varint, isNegative, readVarInt}
-use Rattle.ion.specs.Int.{int, readInt}
-use Rattle.ion.specs.Offset.{WithinDay, minutesIs, rawIs}
-use Rattle.ion.specs.Value.{offsetBytes, varuints, fieldList, fieldCount, fractionBytes, bodyFrom}
-use Rattle.ion.specs.Decode.{found, nothing, signedOffset, offsetFrom, decodeOffset, oneMore, fieldFrom, decodeFields, fractionFrom, decodeFraction, filled, precisionWith, fieldsFrom, afterFields, afterOffset, fromOffset, decodeBody, isFieldCount}
+use Rattle.ion.specs.Numbers.VarUInt.{varuint, groupCount, readVarUInt}
+use Rattle.ion.specs.Numbers.VarInt.{signed, varint, isNegative, readVarInt}
+use Rattle.ion.specs.Numbers.Int.{int, readInt}
+use Rattle.ion.specs.Pair.Offset.{WithinDay, offsetMinutes, rawOffset}
+use Rattle.ion.specs.Value.Encode.{offsetBytes, varuints, fieldList, fieldCount, fractionBytes, bodyFrom}
+use Rattle.ion.specs.Value.Decode.{found, nothing, signedOffset, offsetFrom, decodeOffset, oneMore, fieldFrom, decodeFields, fractionFrom, decodeFraction, filled, precisionWith, fieldsFrom, afterFields, afterOffset, fromOffset, decodeBody, isFieldCount}
 use Rattle.ion.specs.declared.Fields.{Fields}
 use Rattle.ion.specs.declared.Body.{Body}
 use Rattle.ion.specs.declared.offset.Offset.{Offset}
@@ -31,7 +31,7 @@ use Rattle.timestamp_binary.specs.Encodable.{Encodable}
 
 -- ---- the offset
 
-signed-minutes : (z : ℤ) → signedOffset (isNegative z) (natAbs z) ≡ Known (minutesIs z)
+signed-minutes : (z : ℤ) → signedOffset (isNegative z) (natAbs z) ≡ Known (offsetMinutes z)
 signed-minutes (pos n) = refl
 signed-minutes (negsuc n) = refl
 
@@ -110,7 +110,7 @@ pub no-fraction : (d c : ℕ) → d ≡ 0 → fractionBytes d c ≡ []
 unfolding fractionBytes
 no-fraction d c e = rw e
 
-fields-are : (u : Fields) (v : List ℕ) (k : ℕ) → v ≡ fieldList u → k ≡ u .precision → u .offset ≡ rawIs 0 → fieldsFrom v k (u .digits) ≡ u
+fields-are : (u : Fields) (v : List ℕ) (k : ℕ) → v ≡ fieldList u → k ≡ u .precision → u .offset ≡ rawOffset 0 → fieldsFrom v k (u .digits) ≡ u
 fields-are u v k e f z =
     ap₂ (λ (w : List ℕ) (j : ℕ). fieldsFrom w j (u .digits)) e f
     ∙ λ i.

@@ -8,12 +8,12 @@ use borrow.Author.Tests.{ltb-true}
 use lib.Dec.{ltb, lit<}
 use lib.ListN.{length, take, drop}
 use Rattle.places.proofs.Below.{Below, below-none, below-cons, below-append, below-drop, below-after, each-below}
-use Rattle.ion.specs.VarUInt.{varuint, readVarUInt}
-use Rattle.ion.specs.VarInt.{signed, varint, readVarInt}
-use Rattle.ion.specs.Int.{int, readInt}
-use Rattle.ion.specs.Offset.{WithinDay}
-use Rattle.ion.specs.Value.{offsetBytes, varuints, fieldList, fieldCount, fractionBytes, bodyFrom}
-use Rattle.ion.specs.Decode.{Decoded, found, nothing, signedOffset, offsetFrom, decodeOffset, oneMore, fieldFrom, decodeFields, coefficientFrom, fractionFrom, decodeFraction, firstValues, filled, precisionWith, fieldsFrom, bodyIs, afterFields, afterOffset, fromOffset, decodeBody, isFieldCount}
+use Rattle.ion.specs.Numbers.VarUInt.{varuint, readVarUInt}
+use Rattle.ion.specs.Numbers.VarInt.{signed, varint, readVarInt}
+use Rattle.ion.specs.Numbers.Int.{int, readInt}
+use Rattle.ion.specs.Pair.Offset.{WithinDay}
+use Rattle.ion.specs.Value.Encode.{offsetBytes, varuints, fieldList, fieldCount, fractionBytes, bodyFrom}
+use Rattle.ion.specs.Value.Decode.{Decoded, found, nothing, signedOffset, offsetFrom, decodeOffset, oneMore, fieldFrom, decodeFields, coefficientFrom, fractionFrom, decodeFraction, firstValues, filled, precisionWith, fieldsFrom, bodyWith, afterFields, afterOffset, fromOffset, decodeBody, isFieldCount}
 use Rattle.ion.specs.declared.Fields.{Fields}
 use Rattle.ion.specs.declared.Body.{Body}
 use Rattle.ion.specs.declared.offset.Offset.{Offset}
@@ -232,7 +232,7 @@ no-digits-after t d c e f =
     sym (ap (λ (p : ℕ × ℕ). p .0) both)
 
 joined : (s : List ℕ) (o : Offset) (a l t : List ℕ) (d c : ℕ) → s ≡ offsetBytes o ++ a → WithinDay o → Split 6 a l t → isFieldCount (length l) ≡ true
-    → Fraction t d c → decodeFraction t ≡ found (d, c) → Written s (bodyIs o l d c)
+    → Fraction t d c → decodeFraction t ≡ found (d, c) → Written s (bodyWith o l d c)
 unfolding bodyFrom
 joined s o a l t d c es w p k q e =
     let u = fieldsFrom (filled l) (precisionWith (length l)) d in
@@ -264,7 +264,7 @@ body-is s x h e = first (decodeOffset s) refl e
     fourth : (o : Offset) (a l t : List ℕ) → s ≡ offsetBytes o ++ a → WithinDay o → Split 6 a l t → isFieldCount (length l) ≡ true → Below 256 t
         → (q : Decoded (ℕ × ℕ)) → decodeFraction t ≡ q → afterFields o l q ≡ found x → Written s x
     fourth o a l t es w p k b (found y) f e =
-        let ex : bodyIs o l (y .0) (y .1) ≡ x = cc in
+        let ex : bodyWith o l (y .0) (y .1) ≡ x = cc in
         rw (← ex) (joined s o a l t (y .0) (y .1) es w p k (fraction-is t (y .0) (y .1) b f) f)
     fourth o a l t es w p k b nothing f e = absurd (let z : _≡_ {A = ℕ} 0 1 = cc in omega arith)
 

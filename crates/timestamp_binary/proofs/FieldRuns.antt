@@ -6,8 +6,8 @@ use native.Mathlib.Numerals.{add-one}
 use native.Mathlib.Omega.{arith}
 use lib.ListN.{length, take, getD, length-append}
 use lib.Seq.{take-suc}
-use Rattle.ion.specs.VarUInt.{varuint, groupCount}
-use Rattle.ion.specs.Value.{varuints}
+use Rattle.ion.specs.Numbers.VarUInt.{varuint, groupCount}
+use Rattle.ion.specs.Value.Encode.{varuints}
 use Rattle.binary.proofs.VarUInts.{length-varuint}
 
 varuints-append : (l m : List ℕ) → varuints (l ++ m) ≡ varuints l ++ varuints m

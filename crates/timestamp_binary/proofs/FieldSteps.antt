@@ -8,8 +8,8 @@ use native.Mathlib.Omega.{arith}
 use lib.Dec.{eqb}
 use lib.ListN.{length, take, drop, set, take-append-drop, length-append, length-take, length-drop}
 use lib.Seq.{drop-drop, drop-set-lt, take-suc-set, length-take-le}
-use Rattle.ion.specs.VarUInt.{readVarUInt}
-use Rattle.ion.specs.Decode.{Decoded, found, nothing, oneMore, fieldFrom, decodeFields, decodeFraction, firstValues, filled, precisionWith, fieldsFrom, bodyIs, afterFields, afterOffset, isFieldCount}
+use Rattle.ion.specs.Numbers.VarUInt.{readVarUInt}
+use Rattle.ion.specs.Value.Decode.{Decoded, found, nothing, oneMore, fieldFrom, decodeFields, decodeFraction, firstValues, filled, precisionWith, fieldsFrom, bodyWith, afterFields, afterOffset, isFieldCount}
 use Rattle.ion.specs.declared.Body.{Body}
 use Rattle.ion.specs.declared.VarUIntRead.{VarUIntRead}
 use Rattle.ion.specs.declared.VarUIntRead.the-variants as uint
@@ -116,6 +116,6 @@ module _ {s : List ℕ} {q : Decoded (List ℕ × List ℕ)} {r : FieldsRead} (f
       go false e = ap (λ (b : Bool). cond b (afterFields o l (decodeFraction (drop (r .next) s))) nothing) e
 
   pub body-values : (o : Offset) (p d c : ℕ) → p ≡ precisionWith (r .count)
-      → _≡_ {A = Body} (record { offset = o; utc = fieldsFrom (r .values) p d; coefficient = c }) (bodyIs o (take (r .count) (r .values)) d c)
+      → _≡_ {A = Body} (record { offset = o; utc = fieldsFrom (r .values) p d; coefficient = c }) (bodyWith o (take (r .count) (r .values)) d c)
   body-values o p d c e =
       ap₂ (λ (v : List ℕ) (k : ℕ). record { offset = o; utc = fieldsFrom v k d; coefficient = c }) (f .values) (e ∙ ap precisionWith (sym counted))

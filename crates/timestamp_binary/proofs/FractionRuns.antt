@@ -2,8 +2,8 @@
 use mathlib.Core.Path.{_≡_, refl, ap}
 use Prim.Native.Nat.{ℕ, zero, suc}
 use lib.IntN.{pos, negℤ, _-ℤ_, +ℤ-idl}
-use Rattle.ion.specs.Decimal.{decimalBytes}
-use Rattle.ion.specs.Value.{fractionBytes}
+use Rattle.ion.specs.Numbers.Decimal.{decimalBytes}
+use Rattle.ion.specs.Value.Encode.{fractionBytes}
 
 pub fraction-some : (d c : ℕ) → (d ≡ 0 → ⊥) → decimalBytes c (pos 0 -ℤ pos d) ≡ fractionBytes d c
 unfolding fractionBytes

@@ -5,7 +5,7 @@ use Prim.Native.Nat.{ℕ, zero, suc, _+_, _-_, _≤_, _<_}
 use native.Mathlib.Omega.{arith}
 use lib.ListN.{length, take, drop, set}
 use lib.Seq.{length-take-le}
-use Rattle.ion.specs.Value.{bodyOf, valueOf}
+use Rattle.ion.specs.Value.Encode.{bodyOf, valueOf}
 use Rattle.ion.specs.declared.Timestamp.{Timestamp}
 use Rattle.timestamp_binary.proofs.Lengths.{header-short, header-long}
 

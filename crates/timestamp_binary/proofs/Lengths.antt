@@ -9,15 +9,15 @@ use lib.Dec.{leb, lit<}
 use lib.IntN.{natAbs}
 use lib.ListN.{length, take, length-append, length-take}
 use Rattle.places.proofs.Below.{Below, below-take}
-use Rattle.ion.specs.VarUInt.{groups, varuint, groupCount}
-use Rattle.ion.specs.VarInt.{signed, varint, isNegative}
-use Rattle.ion.specs.Int.{int}
-use Rattle.ion.specs.Offset.{WithinDay, offsetOf}
-use Rattle.ion.specs.Word.{fieldsOf}
-use Rattle.ion.specs.Pair.{wordIn}
-use Rattle.ion.specs.Fraction.{scale}
-use Rattle.ion.specs.Utc.{utcFields}
-use Rattle.ion.specs.Value.{offsetBytes, varuints, fieldList, fieldCount, fractionBytes, bodyFrom, bodyOf, header, valueOf}
+use Rattle.ion.specs.Numbers.VarUInt.{groups, varuint, groupCount}
+use Rattle.ion.specs.Numbers.VarInt.{signed, varint, isNegative}
+use Rattle.ion.specs.Numbers.Int.{int}
+use Rattle.ion.specs.Pair.Offset.{WithinDay, offsetOf}
+use Rattle.ion.specs.Pair.Word.{fieldsOf}
+use Rattle.ion.specs.Pair.Pair.{wordIn}
+use Rattle.ion.specs.Pair.Fraction.{scale}
+use Rattle.ion.specs.Calls.Utc.{utcFields}
+use Rattle.ion.specs.Value.Encode.{offsetBytes, varuints, fieldList, fieldCount, fractionBytes, bodyFrom, bodyOf, header, valueOf}
 use Rattle.ion.specs.declared.Fields.{Fields}
 use Rattle.ion.specs.declared.Timestamp.{Timestamp}
 use Rattle.ion.specs.declared.offset.Offset.{Offset}

@@ -4,12 +4,12 @@ use Prim.Native.Nat.{ℕ, _*_, _/_, _^_, _≤_, _<_, min}
 use native.Mathlib.Nat.{mul-mod-left, mul-div-cancel}
 use native.Mathlib.Omega.{arith}
 use Rattle.integers.proofs.Parts.{down}
-use Rattle.ion.specs.Offset.{rawIs, offsetOf}
-use Rattle.ion.specs.Shift.{IsDateTime, minuteNumber}
-use Rattle.ion.specs.Fraction.{scale}
-use Rattle.ion.specs.Accepted.{Valid, timeIn}
-use Rattle.ion.specs.Utc.{withTime, utcBy, utcFields}
-use Rattle.ion.specs.Decode.{localBy}
+use Rattle.ion.specs.Pair.Offset.{rawOffset, offsetOf}
+use Rattle.ion.specs.Calendar.Shift.{IsDateTime, minuteNumber}
+use Rattle.ion.specs.Pair.Fraction.{scale}
+use Rattle.ion.specs.Calls.Accepted.{Valid, timeIn}
+use Rattle.ion.specs.Calls.Utc.{withTime, utcBy, utcFields}
+use Rattle.ion.specs.Value.Decode.{localBy}
 use Rattle.ion.specs.declared.DateTime.{DateTime}
 use Rattle.ion.specs.declared.Fields.{Fields}
 use Rattle.ion.specs.declared.Body.{Body}
@@ -18,8 +18,8 @@ use Rattle.ion.specs.declared.offset.Offset.{Offset}
 use Rattle.ion.specs.declared.offset.Offset.the-variants.{Unknown, Known}
 use Rattle.ion.proofs.Offsets.{raw-and-back, raw-lt}
 use Rattle.calendar.proofs.Shifts.{shifted-is, shift-back}
-use Rattle.calendar.proofs.Room.{moved-room}
-use Rattle.fraction.proofs.Caps.{scaled-low}
+use Rattle.calendar.proofs.FirstDay.{moved-room}
+use Rattle.fraction.proofs.Capped.{scaled-low}
 use Rattle.fraction.proofs.Scales.{scale-pos}
 use Rattle.timestamp_binary.specs.Encodable.{Encodable}
 use Rattle.timestamp_binary.specs.Acceptable.{Acceptable}
@@ -115,13 +115,13 @@ module _ (x : Body) (p : Encodable x) (q : Acceptable x) where
 
   -- ---- and their body has these parts
 
-  same-fields : (u : Fields) → u .offset ≡ rawIs 0 → withTime u (timeIn u) (rawIs 0) ≡ u
+  same-fields : (u : Fields) → u .offset ≡ rawOffset 0 → withTime u (timeIn u) (rawOffset 0) ≡ u
   same-fields u e = ap (withTime u (timeIn u)) (sym e)
 
   utc-again : (o : Offset) → x .offset ≡ o → utcBy o (localBy o (x .utc)) ≡ x .utc
   utc-again Unknown e = same-fields (x .utc) (p .no-raw)
   utc-again (Known m) e =
-      ap (λ (t : DateTime). withTime (x .utc) t (rawIs 0)) (shift-back (timeIn (x .utc)) (m .0) (q .time) (room m e))
+      ap (λ (t : DateTime). withTime (x .utc) t (rawOffset 0)) (shift-back (timeIn (x .utc)) (m .0) (q .time) (room m e))
       ∙ same-fields (x .utc) (p .no-raw)
 
   offset-again : offsetOf (localBy (x .offset) (x .utc) .offset) ≡ x .offset

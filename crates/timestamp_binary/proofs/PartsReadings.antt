@@ -7,14 +7,14 @@ use Prim.Native.Nat.{ℕ, _≤_}
 use borrow.Author.Tests.{eqb-true}
 use lib.Dec.{eqb}
 use Rattle.places.proofs.Below.{Below}
-use Rattle.ion.specs.Refusal.{bodyRefused}
-use Rattle.ion.specs.Pair.{wordIn}
-use Rattle.ion.specs.Word.{fieldsOf}
-use Rattle.ion.specs.Check.{checkOf}
-use Rattle.ion.specs.Accepted.{Valid, Accepted}
-use Rattle.ion.specs.Value.{bodyFrom, bodyOf}
-use Rattle.ion.specs.Decode.{found, nothing, decodeBody, pairFrom, localBy}
-use Rattle.ion.specs.ReadValue.{refusedReading, acceptedReading, same, isBodyOf, takenAs, readBody}
+use Rattle.ion.specs.Calls.Refusal.{bodyRefused}
+use Rattle.ion.specs.Pair.Pair.{wordIn}
+use Rattle.ion.specs.Pair.Word.{fieldsOf}
+use Rattle.ion.specs.Calls.Check.{checkOf}
+use Rattle.ion.specs.Calls.Accepted.{Valid, Accepted}
+use Rattle.ion.specs.Value.Encode.{bodyFrom, bodyOf}
+use Rattle.ion.specs.Value.Decode.{found, nothing, decodeBody, pairFrom, localBy}
+use Rattle.ion.specs.Value.ReadValue.{refusedReading, acceptedReading, same, isBodyOf, takenAs, readBody}
 use Rattle.ion.specs.declared.Fields.{Fields}
 use Rattle.ion.specs.declared.Body.{Body}
 use Rattle.ion.specs.declared.Read.{Read}

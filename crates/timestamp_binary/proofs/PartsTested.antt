@@ -6,8 +6,8 @@ use native.Mathlib.Decide.{decLe}
 use native.Mathlib.Omega.{arith}
 use borrow.Author.Tests.{leb-true, le-leb}
 use lib.Dec.{leb, ltb}
-use Rattle.ion.specs.Calendar.{IsDate, isDate}
-use Rattle.ion.specs.Accepted.{dateIn}
+use Rattle.ion.specs.Calendar.Dates.{IsDate, isDate}
+use Rattle.ion.specs.Calls.Accepted.{dateIn}
 use Rattle.ion.specs.declared.Body.{Body}
 use Rattle.ion.specs.declared.offset.Offset.{Offset}
 use Rattle.ion.specs.declared.offset.Offset.the-variants.{Unknown, Known}
@@ -17,13 +17,13 @@ use Rattle.timestamp_binary.specs.PartsRead.{UtcInBounds, offsetFits}
 
 -- ---- the tests
 
-abbrev pub boundsTest : Body → Bool
-boundsTest x =
+abbrev pub utcBoundsTest : Body → Bool
+utcBoundsTest x =
     leb (x .utc .year) 10000 && leb (x .utc .hour) 23 && leb (x .utc .minute) 59 && leb (x .utc .second) 59 && leb (x .utc .digits) 18
     && offsetFits (x .utc .precision) (x .offset)
 
 abbrev pub partsTest : Body → Bool
-partsTest x = boundsTest x && ltb (x .coefficient) (10 ^ min (x .utc .digits) 18) && isDate (dateIn (x .utc))
+partsTest x = utcBoundsTest x && ltb (x .coefficient) (10 ^ min (x .utc .digits) 18) && isDate (dateIn (x .utc))
 
 -- ---- each with the fact that it decides
 

@@ -5,8 +5,8 @@ use Prim.Native.Nat.{ℕ, _+_, _-_, _≤_, _<_}
 use native.Mathlib.Omega.{arith}
 use borrow.Author.Tests.{lt-ltb, le-ltb, ne-eqb}
 use lib.ListN.{length, take}
-use Rattle.ion.specs.Refusal.{inputEnds, firstByteRefused, bodyRefused}
-use Rattle.ion.specs.ReadValue.{refusedReading, readBody, readAfter, readLength, readOf}
+use Rattle.ion.specs.Calls.Refusal.{inputEnds, firstByteRefused, bodyRefused}
+use Rattle.ion.specs.Value.ReadValue.{refusedReading, readBody, readAfter, readLength, readValue}
 
 -- ---- a body of n bytes
 
@@ -38,22 +38,22 @@ length-is c s l h = rw (le-ltb c 0x8e l, le-ltb 0x92 c h)
 
 -- ---- the first byte
 
-pub first-none : readOf [] ≡ refusedReading inputEnds
-unfolding readOf
+pub first-none : readValue [] ≡ refusedReading inputEnds
+unfolding readValue
 first-none = refl
 
-pub first-low : (d : ℕ) (s : List ℕ) → d < 0x60 → readOf (d ∷ s) ≡ refusedReading firstByteRefused
-unfolding readOf
+pub first-low : (d : ℕ) (s : List ℕ) → d < 0x60 → readValue (d ∷ s) ≡ refusedReading firstByteRefused
+unfolding readValue
 first-low d s h = rw (lt-ltb d 0x60 h)
 
-pub first-high : (d : ℕ) (s : List ℕ) → 0x6e < d → readOf (d ∷ s) ≡ refusedReading firstByteRefused
-unfolding readOf
+pub first-high : (d : ℕ) (s : List ℕ) → 0x6e < d → readValue (d ∷ s) ≡ refusedReading firstByteRefused
+unfolding readValue
 first-high d s h = rw (le-ltb d 0x60 (omega arith), lt-ltb 0x6e d h)
 
-pub first-long : (d : ℕ) (s : List ℕ) → d ≡ 0x6e → readOf (d ∷ s) ≡ readLength s
-unfolding readOf
+pub first-long : (d : ℕ) (s : List ℕ) → d ≡ 0x6e → readValue (d ∷ s) ≡ readLength s
+unfolding readValue
 first-long d s e = rw e
 
-pub first-short : (d : ℕ) (s : List ℕ) → 0x60 ≤ d → d ≤ 0x6e → (d ≡ 0x6e → ⊥) → readOf (d ∷ s) ≡ readAfter 1 (d - 0x60) s
-unfolding readOf
+pub first-short : (d : ℕ) (s : List ℕ) → 0x60 ≤ d → d ≤ 0x6e → (d ≡ 0x6e → ⊥) → readValue (d ∷ s) ≡ readAfter 1 (d - 0x60) s
+unfolding readValue
 first-short d s l h n = rw (le-ltb d 0x60 l, le-ltb 0x6e d h, ne-eqb d 0x6e n)

@@ -9,12 +9,12 @@ use borrow.Author.Tests.{ltb-false, eqb-true, eqb-false}
 use lib.Dec.{eqb, ltb}
 use lib.ListN.{length, take, drop, take-append-drop}
 use lib.Seq.{length-take-le}
-use Rattle.ion.specs.Refusal.{inputEnds, firstByteRefused, bodyRefused}
-use Rattle.ion.specs.Check.{checkOf}
-use Rattle.ion.specs.Accepted.{Accepted}
-use Rattle.ion.specs.Value.{bodyOf, header, valueOf}
-use Rattle.ion.specs.Decode.{Decoded, found, nothing, decodeBody, pairFrom}
-use Rattle.ion.specs.ReadValue.{refusedReading, acceptedReading, same, isBodyOf, takenAs, readBody, readAfter, readLength, readOf}
+use Rattle.ion.specs.Calls.Refusal.{inputEnds, firstByteRefused, bodyRefused}
+use Rattle.ion.specs.Calls.Check.{checkOf}
+use Rattle.ion.specs.Calls.Accepted.{Accepted}
+use Rattle.ion.specs.Value.Encode.{bodyOf, header, valueOf}
+use Rattle.ion.specs.Value.Decode.{Decoded, found, nothing, decodeBody, pairFrom}
+use Rattle.ion.specs.Value.ReadValue.{refusedReading, acceptedReading, same, isBodyOf, takenAs, readBody, readAfter, readLength, readValue}
 use Rattle.ion.specs.declared.Body.{Body}
 use Rattle.ion.specs.declared.Timestamp.{Timestamp}
 use Rattle.ion.specs.declared.Read.{Read}
@@ -116,8 +116,8 @@ length-is (c ∷ s) e = go (ltb c 0x8e || ltb 0x92 c) refl e
         long-is c s (readAfter 2 (c - 0x80) s) (ltb-false c 0x8e (p .0)) (ltb-false 0x92 c (p .1)) (after-is 2 (c - 0x80) s e)
 
 -- what is accepted begins with the value of the timestamp given, of the length given
-pub read-is : (b : List ℕ) → readOf b .number ≡ 0 → ReadAs b (readOf b)
-unfolding readOf
+pub read-is : (b : List ℕ) → readValue b .number ≡ 0 → ReadAs b (readValue b)
+unfolding readValue
 read-is [] e = no-refusal inputEnds (omega arith) e
 read-is (d ∷ s) e = first (ltb d 0x60 || ltb 0x6e d) refl e
   where
@@ -140,7 +140,7 @@ pub value-apart : (s t : Timestamp) → Accepted s → Accepted t → (q r : Lis
 value-apart s t p u q r e =
     let a = ap (λ (x : Read). x .stamp) (value-back s p q) in
     let b = ap (λ (x : Read). x .stamp) (value-back t u r) in
-    sym a ∙ ap (λ (x : List ℕ). readOf x .stamp) e ∙ b
+    sym a ∙ ap (λ (x : List ℕ). readValue x .stamp) e ∙ b
 
 pub value-injective : (s t : Timestamp) → Accepted s → Accepted t → valueOf s ≡ valueOf t → s ≡ t
 value-injective s t p u e = value-apart s t p u [] [] (append-nil (valueOf s) ∙ e ∙ sym (append-nil (valueOf t)))

@@ -8,13 +8,13 @@ use lib.Dec.{lit≤}
 use lib.IntN.{natAbs, negℤ}
 use Rattle.integers.proofs.Parts.{down}
 use Rattle.places.proofs.Below.{Below, below-cons, each-below}
-use Rattle.ion.specs.Offset.{rawIs, offsetOf, rawOf}
-use Rattle.ion.specs.Shift.{IsDateTime, minuteNumber, shifted}
-use Rattle.ion.specs.Fraction.{scale}
-use Rattle.ion.specs.Accepted.{Valid, dateIn, timeIn}
-use Rattle.ion.specs.Utc.{withTime, utcBy, utcFields}
-use Rattle.ion.specs.Value.{fieldList}
-use Rattle.ion.specs.Decode.{localBy}
+use Rattle.ion.specs.Pair.Offset.{rawOffset, offsetOf, rawOf}
+use Rattle.ion.specs.Calendar.Shift.{IsDateTime, minuteNumber, shifted}
+use Rattle.ion.specs.Pair.Fraction.{scale}
+use Rattle.ion.specs.Calls.Accepted.{Valid, dateIn, timeIn}
+use Rattle.ion.specs.Calls.Utc.{withTime, utcBy, utcFields}
+use Rattle.ion.specs.Value.Encode.{fieldList}
+use Rattle.ion.specs.Value.Decode.{localBy}
 use Rattle.ion.specs.declared.DateTime.{DateTime}
 use Rattle.ion.specs.declared.Fields.{Fields}
 use Rattle.ion.specs.declared.offset.OffsetMinutes.{OffsetMinutes}
@@ -66,10 +66,10 @@ module _ (f : Fields) (a : ℕ) (v : Valid f a) where
   unfolding utcFields
   unknown-utc e = ap (λ (o : Offset). utcBy o f) e
 
-  raw-is-zero : offsetOf (f .offset) ≡ Unknown → f .offset ≡ rawIs 0
-  raw-is-zero e = ap rawIs (raw-zero (f .offset) e)
+  raw-is-zero : offsetOf (f .offset) ≡ Unknown → f .offset ≡ rawOffset 0
+  raw-is-zero e = ap rawOffset (raw-zero (f .offset) e)
 
-  unknown-encodable : (o : Offset) → o ≡ Unknown → f .offset ≡ rawIs 0 → Encodable (record { offset = o; utc = f; coefficient = a / scale (f .digits) })
+  unknown-encodable : (o : Offset) → o ≡ Unknown → f .offset ≡ rawOffset 0 → Encodable (record { offset = o; utc = f; coefficient = a / scale (f .digits) })
   unknown-encodable o e r =
       rw e
       (record {
@@ -103,7 +103,7 @@ module _ (f : Fields) (a : ℕ) (v : Valid f a) where
     room : down (negℤ (m .0)) ≤ minuteNumber (timeIn f)
     room = shift-room (timeIn f) (negℤ (m .0)) (v .from-year) within-neg
 
-    pub known-utc : utcFields f ≡ withTime f (shifted (timeIn f) (negℤ (m .0))) (rawIs 0)
+    pub known-utc : utcFields f ≡ withTime f (shifted (timeIn f) (negℤ (m .0))) (rawOffset 0)
     unfolding utcFields
     known-utc = ap (λ (o : Offset). utcBy o f) e
 
@@ -121,7 +121,7 @@ module _ (f : Fields) (a : ℕ) (v : Valid f a) where
     late h = raw-some (f .offset) m e (v .no-offset h)
 
     known-encodable : (o : Offset) → o ≡ Known m
-        → Encodable (record { offset = o; utc = withTime f (shifted (timeIn f) (negℤ (m .0))) (rawIs 0); coefficient = a / scale (f .digits) })
+        → Encodable (record { offset = o; utc = withTime f (shifted (timeIn f) (negℤ (m .0))) (rawOffset 0); coefficient = a / scale (f .digits) })
     known-encodable o q =
         let t = shifted (timeIn f) (negℤ (m .0)) in
         rw q
@@ -129,7 +129,7 @@ module _ (f : Fields) (a : ℕ) (v : Valid f a) where
           within-day = within;
           no-raw = refl;
           precise = v .precision;
-          small = small-list (withTime f t (rawIs 0)) utc-year utc-time (v .second);
+          small = small-list (withTime f t (rawOffset 0)) utc-year utc-time (v .second);
           no-month = λ h. absurd (late (omega arith));
           no-day = λ h. absurd (late (omega arith));
           no-hour = λ h. absurd (late h);
@@ -141,7 +141,7 @@ module _ (f : Fields) (a : ℕ) (v : Valid f a) where
           no-coefficient = no-coefficient;
         })
 
-    known-local : (o : Offset) → o ≡ Known m → localBy o (withTime f (shifted (timeIn f) (negℤ (m .0))) (rawIs 0)) ≡ f
+    known-local : (o : Offset) → o ≡ Known m → localBy o (withTime f (shifted (timeIn f) (negℤ (m .0))) (rawOffset 0)) ≡ f
     known-local o q =
         rw q
         (ap (λ (t : DateTime). withTime f t (rawOf (Known m))) local-again

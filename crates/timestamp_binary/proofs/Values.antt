@@ -10,13 +10,13 @@ use borrow.Author.Tests.{le-ltb, ne-eqb}
 use lib.Dec.{lit≤}
 use lib.ListN.{length, take, length-append}
 use lib.Seq.{take-at}
-use Rattle.ion.specs.Pair.{wordIn, pairIs}
-use Rattle.ion.specs.Word.{wordOf, fieldsOf}
-use Rattle.ion.specs.Fraction.{scale}
-use Rattle.ion.specs.Accepted.{Accepted}
-use Rattle.ion.specs.Value.{offsetBytes, varuints, fieldList, fieldCount, fractionBytes, bodyFrom, bodyOf, valueOf}
-use Rattle.ion.specs.Decode.{found, decodeBody, pairFrom}
-use Rattle.ion.specs.ReadValue.{acceptedReading, isBodyOf, takenAs, readBody, readAfter, readLength, readOf}
+use Rattle.ion.specs.Pair.Pair.{wordIn, packedPair}
+use Rattle.ion.specs.Pair.Word.{wordOf, fieldsOf}
+use Rattle.ion.specs.Pair.Fraction.{scale}
+use Rattle.ion.specs.Calls.Accepted.{Accepted}
+use Rattle.ion.specs.Value.Encode.{offsetBytes, varuints, fieldList, fieldCount, fractionBytes, bodyFrom, bodyOf, valueOf}
+use Rattle.ion.specs.Value.Decode.{found, decodeBody, pairFrom}
+use Rattle.ion.specs.Value.ReadValue.{acceptedReading, isBodyOf, takenAs, readBody, readAfter, readLength, readValue}
 use Rattle.ion.specs.declared.Timestamp.{Timestamp}
 use Rattle.ion.proofs.Same.{same-refl}
 use Rattle.timestamp.proofs.Accepts.{check-zero}
@@ -37,7 +37,7 @@ module _ (s : Timestamp) (p : Accepted s) where
       let v = p .fields in
       let w = ap wordOf (local-fields f a v) ∙ accepted-word p in
       let c = ap (λ (d : ℕ). a / scale (f .digits) * scale d) (utc-digits f a v) ∙ attoseconds-back f a v in
-      ap₂ pairIs w c
+      ap₂ packedPair w c
 
   pub decode-value : decodeBody (bodyOf s) ≡ found (bodyFor (fieldsOf (wordIn s)) (s .attoseconds))
   unfolding bodyOf
@@ -79,8 +79,8 @@ module _ (s : Timestamp) (p : Accepted s) where
   after-back k n r e =
       rw (le-ltb (length (bodyOf s ++ r)) n (omega (arith, e, length-append (bodyOf s) r)), take-at (bodyOf s) r n (sym e)) (body-read (k + n))
 
-  short-back : (r : List ℕ) → length (bodyOf s) ≤ 13 → readOf (valueOf s ++ r) ≡ acceptedReading s (length (valueOf s))
-  unfolding readOf valueOf
+  short-back : (r : List ℕ) → length (bodyOf s) ≤ 13 → readValue (valueOf s ++ r) ≡ acceptedReading s (length (valueOf s))
+  unfolding readValue valueOf
   short-back r h =
       let n = length (bodyOf s) in
       let e : 0x60 + n - 0x60 ≡ n = omega arith in
@@ -88,8 +88,8 @@ module _ (s : Timestamp) (p : Accepted s) where
       (rw (le-ltb (0x60 + n) 0x60 (omega arith), le-ltb 0x6e (0x60 + n) (omega arith), ne-eqb (0x60 + n) 0x6e (omega arith), e)
       (after-back 1 n r refl ∙ ap (acceptedReading s) (let z : 1 + n ≡ suc n = omega arith in z)))
 
-  long-back : (r : List ℕ) → 13 < length (bodyOf s) → readOf (valueOf s ++ r) ≡ acceptedReading s (length (valueOf s))
-  unfolding readOf readLength valueOf
+  long-back : (r : List ℕ) → 13 < length (bodyOf s) → readValue (valueOf s ++ r) ≡ acceptedReading s (length (valueOf s))
+  unfolding readValue readLength valueOf
   long-back r h =
       let n = length (bodyOf s) in
       let e : 0x80 + n - 0x80 ≡ n = omega arith in
@@ -98,9 +98,9 @@ module _ (s : Timestamp) (p : Accepted s) where
       (after-back 2 n r refl ∙ ap (acceptedReading s) (let z : 2 + n ≡ suc (suc n) = omega arith in z)))
 
   -- the writer's bytes are read back, with whatever bytes after them
-  pub value-back : (r : List ℕ) → readOf (valueOf s ++ r) ≡ acceptedReading s (length (valueOf s))
+  pub value-back : (r : List ℕ) → readValue (valueOf s ++ r) ≡ acceptedReading s (length (valueOf s))
   value-back r = go (decLe (length (bodyOf s)) 13)
     where
-      go : Dec (length (bodyOf s) ≤ 13) → readOf (valueOf s ++ r) ≡ acceptedReading s (length (valueOf s))
+      go : Dec (length (bodyOf s) ≤ 13) → readValue (valueOf s ++ r) ≡ acceptedReading s (length (valueOf s))
       go (yes h) = short-back r h
       go (no h) = long-back r (omega (arith, h))

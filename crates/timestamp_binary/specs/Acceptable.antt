@@ -1,9 +1,9 @@
 -- Which parts of a body are an accepted timestamp's. Assumes nothing.
 use mathlib.Core.Path.{_≡_}
 use Prim.Native.Nat.{_^_, _≤_, _<_}
-use Rattle.ion.specs.Shift.{IsDateTime}
-use Rattle.ion.specs.Accepted.{timeIn}
-use Rattle.ion.specs.Decode.{localBy}
+use Rattle.ion.specs.Calendar.Shift.{IsDateTime}
+use Rattle.ion.specs.Calls.Accepted.{timeIn}
+use Rattle.ion.specs.Value.Decode.{localBy}
 use Rattle.ion.specs.declared.Body.{Body}
 use Rattle.ion.specs.declared.offset.Offset.the-variants.{Unknown}
 

@@ -1,8 +1,8 @@
 -- The parts of the body of a timestamp's fields. Assumes nothing.
 use Prim.Native.Nat.{ℕ, _/_}
-use Rattle.ion.specs.Offset.{offsetOf}
-use Rattle.ion.specs.Fraction.{scale}
-use Rattle.ion.specs.Utc.{utcFields}
+use Rattle.ion.specs.Pair.Offset.{offsetOf}
+use Rattle.ion.specs.Pair.Fraction.{scale}
+use Rattle.ion.specs.Calls.Utc.{utcFields}
 use Rattle.ion.specs.declared.Fields.{Fields}
 use Rattle.ion.specs.declared.Body.{Body}
 

@@ -2,14 +2,14 @@
 use mathlib.Core.Path.{_≡_}
 use Prim.Native.Nat.{ℕ, _^_, _≤_, _<_}
 use lib.ListN.{getD}
-use Rattle.ion.specs.Offset.{WithinDay, rawIs}
-use Rattle.ion.specs.Value.{fieldList}
+use Rattle.ion.specs.Pair.Offset.{WithinDay, rawOffset}
+use Rattle.ion.specs.Value.Encode.{fieldList}
 use Rattle.ion.specs.declared.Body.{Body}
 
 -- no field is too large, and what the precision or the digits leave out has its first value
 pub record Encodable (x : Body) : Type 0 where
   pub within-day : WithinDay (x .offset)
-  pub no-raw : x .utc .offset ≡ rawIs 0
+  pub no-raw : x .utc .offset ≡ rawOffset 0
   pub precise : x .utc .precision ≤ 4
   pub small : (i : ℕ) → getD (fieldList (x .utc)) i 0 < 16384
   pub no-month : x .utc .precision < 1 → x .utc .month ≡ 1

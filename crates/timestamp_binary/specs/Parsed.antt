@@ -4,7 +4,7 @@ use mathlib.Core.Bool.{cond}
 use mathlib.Core.List.{List}
 use Prim.Native.Nat.{ℕ, _≤_}
 use lib.ListN.{take, drop}
-use Rattle.ion.specs.Decode.{Decoded, found, nothing, filled}
+use Rattle.ion.specs.Value.Decode.{Decoded, found, nothing, filled}
 use Rattle.ion.specs.declared.Body.{Body}
 use Rattle.timestamp_binary.specs.declared.decoder.BodyRead.{BodyRead}
 use Rattle.timestamp_binary.specs.declared.decoder.BodyRead.the-variants as body

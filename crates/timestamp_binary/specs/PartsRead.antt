@@ -4,11 +4,11 @@ use mathlib.Core.Bool.{Bool, true}
 use mathlib.Core.Logic.{_⊎_}
 use Prim.Native.Nat.{ℕ, _^_, _≤_, _<_}
 use lib.Dec.{leb}
-use Rattle.ion.specs.Refusal.{bodyRefused}
-use Rattle.ion.specs.Shift.{IsDateTime}
-use Rattle.ion.specs.Accepted.{timeIn}
-use Rattle.ion.specs.Decode.{pairFrom}
-use Rattle.ion.specs.ReadValue.{refusedReading, acceptedReading}
+use Rattle.ion.specs.Calls.Refusal.{bodyRefused}
+use Rattle.ion.specs.Calendar.Shift.{IsDateTime}
+use Rattle.ion.specs.Calls.Accepted.{timeIn}
+use Rattle.ion.specs.Value.Decode.{pairFrom}
+use Rattle.ion.specs.Value.ReadValue.{refusedReading, acceptedReading}
 use Rattle.ion.specs.declared.Body.{Body}
 use Rattle.ion.specs.declared.Read.{Read}
 use Rattle.ion.specs.declared.offset.Offset.{Offset}

@@ -14,8 +14,8 @@ ghost use mathlib.Core.Path.{_≡_};
 ghost use mathlib.Core.Bool.{false};
 ghost use Prim.Native.Nat.{_≤_};
 ghost use lib.ListN.{length, drop};
-ghost use Rattle.ion.specs.Int.{readInt};
-ghost use Rattle.ion.specs.Decode.{signedOffset, coefficientFrom, decodeFields, decodeFraction, firstValues, precisionWith, afterOffset, decodeBody};
+ghost use Rattle.ion.specs.Numbers.Int.{readInt};
+ghost use Rattle.ion.specs.Value.Decode.{signedOffset, coefficientFrom, decodeFields, decodeFraction, firstValues, precisionWith, afterOffset, decodeBody};
 ghost use Rattle.timestamp_binary.specs.Parsed.{FieldsAre, fractionIn, bodyIn};
 
 // The parts of a body, or that the bytes are none.

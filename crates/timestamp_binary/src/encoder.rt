@@ -11,11 +11,11 @@ use ion::offset::Offset;
 ghost use mathlib.Core.Path.{_≡_};
 ghost use Prim.Native.Nat.{_+_, _/_, _≤_};
 ghost use lib.ListN.{length, take};
-ghost use Rattle.ion.specs.Fraction.{scale};
-ghost use Rattle.ion.specs.Output.{Run, putAfter, wroteAfter};
-ghost use Rattle.ion.specs.Check.{checkOf};
-ghost use Rattle.ion.specs.Accepted.{Accepted};
-ghost use Rattle.ion.specs.Value.{offsetBytes, varuints, fieldCount, fractionBytes, bodyOf, valueOf};
+ghost use Rattle.ion.specs.Pair.Fraction.{scale};
+ghost use Rattle.ion.specs.Calls.Output.{Run, putAfter, wroteAfter};
+ghost use Rattle.ion.specs.Calls.Check.{checkNumber};
+ghost use Rattle.ion.specs.Calls.Accepted.{Accepted};
+ghost use Rattle.ion.specs.Value.Encode.{offsetBytes, varuints, fieldCount, fractionBytes, bodyOf, valueOf};
 
 const MAX_INLINE_LENGTH: usize = 13;
 
@@ -99,9 +99,9 @@ fn put_body(buf: &mut [u8], at: usize, s: Timestamp) -> usize
 
 // Writes the body of a timestamp's value from index `at` on.
 pub fn encode_timestamp(buf: &mut [u8], at: usize, s: Timestamp) -> Written
-    ensures { λ r. ⌜ (r ≡ wroteAfter (checkOf s .number) (now (buf .entry)) at (bodyOf s)) × (now (buf .exit) ≡ putAfter (checkOf s .number) (now (buf .entry)) at (bodyOf s)) ⌝ }
+    ensures { λ r. ⌜ (r ≡ wroteAfter (checkNumber s) (now (buf .entry)) at (bodyOf s)) × (now (buf .exit) ≡ putAfter (checkNumber s) (now (buf .entry)) at (bodyOf s)) ⌝ }
 {
-    let number = timestamp::number_of(s);
+    let number = timestamp::check_number(s);
     if number != 0 {
         return Written {
             number: number,
@@ -115,9 +115,9 @@ pub fn encode_timestamp(buf: &mut [u8], at: usize, s: Timestamp) -> Written
 
 // Writes the value of a timestamp from index `at` on. The header goes into the two bytes before the body.
 pub fn encode_timestamp_value(buf: &mut [u8], at: usize, s: Timestamp) -> Written
-    ensures { λ r. ⌜ (r ≡ wroteAfter (checkOf s .number) (now (buf .entry)) at (valueOf s)) × (now (buf .exit) ≡ putAfter (checkOf s .number) (now (buf .entry)) at (valueOf s)) ⌝ }
+    ensures { λ r. ⌜ (r ≡ wroteAfter (checkNumber s) (now (buf .entry)) at (valueOf s)) × (now (buf .exit) ≡ putAfter (checkNumber s) (now (buf .entry)) at (valueOf s)) ⌝ }
 {
-    let check = timestamp::number_of(s);
+    let check = timestamp::check_number(s);
     if check != 0 {
         return Written {
             number: check,

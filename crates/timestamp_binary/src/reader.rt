@@ -3,23 +3,18 @@ use crate::decoder::BodyRead;
 use crate::decoder::decode_body;
 use ion::Body;
 use ion::Date;
-use ion::DateTime;
 use ion::Fields;
 use ion::Read;
 use ion::Timestamp;
 use ion::offset;
 use ion::offset::Offset;
-use ion::offset::OffsetMinutes;
 use ion::refusal;
 ghost use mathlib.Core.Path.{_≡_};
 ghost use mathlib.Core.Bool.{true};
 ghost use Prim.Native.Nat.{_≤_};
 ghost use lib.ListN.{length, drop};
-ghost use Rattle.ion.specs.Offset.{WithinDay};
-ghost use Rattle.ion.specs.Shift.{IsDateTime};
-ghost use Rattle.ion.specs.Accepted.{timeIn};
-ghost use Rattle.ion.specs.Decode.{localBy};
-ghost use Rattle.ion.specs.ReadValue.{refusedReading, readBody, readAfter, readLength, readOf};
+ghost use Rattle.ion.specs.Value.Decode.{localBy};
+ghost use Rattle.ion.specs.Value.ReadValue.{refusedReading, readBody, readAfter, readLength, readValue};
 ghost use Rattle.timestamp_binary.specs.Encodable.{Encodable};
 ghost use Rattle.timestamp_binary.specs.PartsRead.{UtcInBounds, offsetFits, PartsRead};
 
@@ -70,32 +65,6 @@ fn utc_in_bounds(x: Body) -> bool
     })
 }
 
-// UTC fields moved by an offset.
-fn moved(u: Fields, m: OffsetMinutes) -> Fields
-    requires { ⌜ IsDateTime (timeIn u) × (u .year ≤ 10000) × WithinDay (Offset.Known m) ⌝ }
-    ensures { λ r. ⌜ r ≡ localBy (Offset.Known m) u ⌝ }
-{
-    let utc = DateTime {
-        year: u.year,
-        month: u.month,
-        day: u.day,
-        hour: u.hour,
-        minute: u.minute,
-    };
-    let t = calendar::add_offset_to_utc(utc, m);
-    Fields {
-        year: t.year,
-        month: t.month,
-        day: t.day,
-        hour: t.hour,
-        minute: t.minute,
-        second: u.second,
-        precision: u.precision,
-        digits: u.digits,
-        offset: offset::raw_of(Offset::Known(m)),
-    }
-}
-
 // The local fields of parts.
 fn local_fields(x: Body) -> Fields
     requires { ⌜ Encodable x × UtcInBounds x ⌝ }
@@ -105,7 +74,7 @@ fn local_fields(x: Body) -> Fields
     let u = x.utc;
     match o {
         Offset::Unknown => u,
-        Offset::Known(m) => moved(u, m),
+        Offset::Known(m) => timestamp::shifted_fields(u, m, offset::raw_of(o)),
     }
 }
 
@@ -177,7 +146,7 @@ fn read_length(s: &[u8]) -> Read
 
 // Reads the value with which `s` begins. Bytes after it are not read.
 pub fn read_value(s: &[u8]) -> Read
-    ensures { λ r. ⌜ r ≡ readOf (now (s .entry)) ⌝ }
+    ensures { λ r. ⌜ r ≡ readValue (now (s .entry)) ⌝ }
 {
     if s.len() == 0 {
         return refused(refusal::INPUT_ENDS);

@@ -2,16 +2,16 @@
 use ion::Decimal;
 use ion::DecimalField;
 use ion::Timestamp;
-use timestamp::number_of;
+use timestamp::check_number;
 ghost use mathlib.Core.Path.{_≡_};
-ghost use Rattle.ion.specs.Reads.{decimalFieldOf};
+ghost use Rattle.ion.specs.Calls.Reads.{decimalFieldOf};
 
 // Its digits as the coefficient, and minus their number as the exponent.
 pub fn fractional_seconds_as_decimal(s: Timestamp) -> DecimalField
     ensures { λ r. ⌜ r ≡ decimalFieldOf s ⌝ }
 {
     let attoseconds = s.attoseconds;
-    let n = number_of(s);
+    let n = check_number(s);
     if n != 0 {
         return DecimalField {
             number: n,

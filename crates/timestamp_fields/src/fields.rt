@@ -1,15 +1,15 @@
 // The fields of the packed word.
 use ion::Field;
 use ion::Timestamp;
-use timestamp::number_of;
+use timestamp::check_number;
 ghost use mathlib.Core.Path.{_≡_};
-ghost use Rattle.ion.specs.Reads.{fieldOf, yearOf, monthOf, dayOf, hourOf, minuteOf, secondOf, precisionFieldOf, digitsFieldOf};
+ghost use Rattle.ion.specs.Calls.Reads.{fieldOf, yearOf, monthOf, dayOf, hourOf, minuteOf, secondOf, precisionFieldOf, digitsFieldOf};
 
 // A field's value, or 0 beside the number of a refusal.
 fn field(s: Timestamp, value: u32) -> Field
     ensures { λ r. ⌜ r ≡ fieldOf (λ f. value) s ⌝ }
 {
-    let n = number_of(s);
+    let n = check_number(s);
     if n != 0 {
         return Field {
             number: n,

@@ -1,10 +1,10 @@
 // The fraction in whole milliseconds, microseconds or nanoseconds.
 use ion::Field;
 use ion::Timestamp;
-use timestamp::number_of;
+use timestamp::check_number;
 ghost use mathlib.Core.Path.{_≡_};
 ghost use Prim.Native.Nat.{_-_, _≤_};
-ghost use Rattle.ion.specs.Reads.{unitsOf, nanosecondsOf, microsecondsOf, millisecondsOf};
+ghost use Rattle.ion.specs.Calls.Reads.{unitsOf, nanosecondsOf, microsecondsOf, millisecondsOf};
 
 // The fraction in whole units of the last of a number of digits.
 fn units(s: Timestamp, digits: u64) -> Field
@@ -12,7 +12,7 @@ fn units(s: Timestamp, digits: u64) -> Field
     ensures { λ r. ⌜ r ≡ unitsOf (18 - digits) s ⌝ }
 {
     let attoseconds = s.attoseconds;
-    let n = number_of(s);
+    let n = check_number(s);
     if n != 0 {
         return Field {
             number: n,

@@ -3,10 +3,10 @@ use mathlib.Core.Path.{_≡_}
 use mathlib.Core.List.{_++_}
 use Prim.Native.Nat.{ℕ}
 use borrow.Author.Tests.{ne-eqb}
-use Rattle.ion.specs.Ascii.{ascii}
-use Rattle.ion.specs.Padded.{padded}
-use Rattle.ion.specs.Offset.{offsetOf}
-use Rattle.ion.specs.Text.{offsetText, fieldsText}
+use Rattle.ion.specs.Text.Ascii.{ascii}
+use Rattle.ion.specs.Numbers.Padded.{padded}
+use Rattle.ion.specs.Pair.Offset.{offsetOf}
+use Rattle.ion.specs.Text.Format.{offsetText, fieldsText}
 use Rattle.ion.specs.declared.Fields.{Fields}
 use Rattle.timestamp_text.specs.Fronts.{toMonth, toDay, toMinute, toFraction}
 

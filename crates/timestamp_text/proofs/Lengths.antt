@@ -9,13 +9,13 @@ use borrow.Author.Tests.{ne-eqb}
 use lib.Dec.{lit≤, eqb}
 use lib.IntN.{ℤ, pos, negsuc, natAbs}
 use lib.ListN.{length, length-append}
-use Rattle.ion.specs.Ascii.{ascii}
-use Rattle.ion.specs.Padded.{padded}
-use Rattle.ion.specs.Offset.{WithinDay, offsetOf}
-use Rattle.ion.specs.Fraction.{scale}
-use Rattle.ion.specs.Word.{InRange}
-use Rattle.ion.specs.Accepted.{Valid}
-use Rattle.ion.specs.Text.{marked, fractionText, clockText, minutesText, offsetText, fieldsText}
+use Rattle.ion.specs.Text.Ascii.{ascii}
+use Rattle.ion.specs.Numbers.Padded.{padded}
+use Rattle.ion.specs.Pair.Offset.{WithinDay, offsetOf}
+use Rattle.ion.specs.Pair.Fraction.{scale}
+use Rattle.ion.specs.Pair.Word.{InRange}
+use Rattle.ion.specs.Calls.Accepted.{Valid}
+use Rattle.ion.specs.Text.Format.{marked, fractionText, clockText, minutesText, offsetText, fieldsText}
 use Rattle.ion.specs.declared.Fields.{Fields}
 use Rattle.ion.specs.declared.offset.Offset.{Offset}
 use Rattle.ion.specs.declared.offset.Offset.the-variants.{Unknown, Known}

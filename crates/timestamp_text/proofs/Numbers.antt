@@ -8,8 +8,8 @@ use native.Mathlib.Omega.{arith}
 use borrow.Author.Tests.{lt-ltb, le-leb}
 use Rattle.places.specs.Places.{placesOn, places}
 use Rattle.places.proofs.Laws.{places-append}
-use Rattle.ion.specs.Padded.{digit, lastDigits}
-use Rattle.ion.specs.ReadText.{isDigit, digitsValue, value, digitRun}
+use Rattle.ion.specs.Numbers.Padded.{digit, lastDigits}
+use Rattle.ion.specs.Text.ReadText.{isDigit, digitsValue, value, digitRun}
 
 digit-is : (d : ℕ) → d < 10 → isDigit (48 + d) ≡ true
 digit-is d h = rw (le-leb 48 (48 + d) (omega arith), lt-ltb (48 + d) 58 (omega arith))

@@ -10,12 +10,12 @@ use lib.Dec.{eqb, lit≤}
 use lib.IntN.{ℤ, pos, negsuc, natAbs}
 use lib.ListN.{drop, getD}
 use Rattle.places.specs.Places.{placesOn, places}
-use Rattle.ion.specs.Ascii.{ascii}
-use Rattle.ion.specs.Padded.{lastDigits}
-use Rattle.ion.specs.Offset.{WithinDay}
-use Rattle.ion.specs.Text.{marked, clockText, unknownText, zeroText, minutesText, offsetText}
-use Rattle.ion.specs.ReadValue.{same}
-use Rattle.ion.specs.ReadText.{digitsValue, digitRun, offset, knownOffset, signedClock, readClock, readOffset}
+use Rattle.ion.specs.Text.Ascii.{ascii}
+use Rattle.ion.specs.Numbers.Padded.{lastDigits}
+use Rattle.ion.specs.Pair.Offset.{WithinDay}
+use Rattle.ion.specs.Text.Format.{marked, clockText, unknownText, zeroText, minutesText, offsetText}
+use Rattle.ion.specs.Value.ReadValue.{same}
+use Rattle.ion.specs.Text.ReadText.{digitsValue, digitRun, offset, knownOffset, signedClock, readClock, readOffset}
 use Rattle.ion.specs.declared.offset.Offset.{Offset}
 use Rattle.ion.specs.declared.offset.Offset.the-variants.{Unknown, Known}
 use Rattle.ion.proofs.Same.{same-not}

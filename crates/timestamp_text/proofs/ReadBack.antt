@@ -10,22 +10,22 @@ use lib.ListN.{drop}
 use lib.Seq.{drop-drop, drop-at}
 use Rattle.places.specs.Places.{placesOn, places}
 use Rattle.places.proofs.Laws.{length-places}
-use Rattle.ion.specs.Ascii.{ascii}
-use Rattle.ion.specs.Padded.{digit, lastDigits, padded}
-use Rattle.ion.specs.Offset.{offsetOf, WithinDay}
-use Rattle.ion.specs.Fraction.{scale, cutTo}
-use Rattle.ion.specs.Stages.{withYear, withMonth, withDay, withHour, withMinute, withSecond}
-use Rattle.ion.specs.Check.{rebuilt}
-use Rattle.ion.specs.Text.{marked, fractionText, offsetText, fieldsText}
-use Rattle.ion.specs.Accepted.{Valid}
-use Rattle.ion.specs.ReadValue.{same}
-use Rattle.ion.specs.ReadText.{fields, markedAt, digitRun, afterPoint, afterSecond, afterMinute, afterHour, afterDay, afterMonth, afterYear, readText}
+use Rattle.ion.specs.Text.Ascii.{ascii}
+use Rattle.ion.specs.Numbers.Padded.{digit, lastDigits, padded}
+use Rattle.ion.specs.Pair.Offset.{offsetOf, WithinDay}
+use Rattle.ion.specs.Pair.Fraction.{scale, cutTo}
+use Rattle.ion.specs.Calls.Stages.{withYear, withMonth, withDay, withHour, withMinute, withSecond}
+use Rattle.ion.specs.Calls.Check.{rebuilt}
+use Rattle.ion.specs.Text.Format.{marked, fractionText, offsetText, fieldsText}
+use Rattle.ion.specs.Calls.Accepted.{Valid}
+use Rattle.ion.specs.Value.ReadValue.{same}
+use Rattle.ion.specs.Text.ReadText.{fields, markedAt, digitRun, afterPoint, afterSecond, afterMinute, afterHour, afterDay, afterMonth, afterYear, readText}
 use Rattle.ion.specs.declared.Fields.{Fields}
 use Rattle.ion.specs.declared.BuilderFields.{BuilderFields}
 use Rattle.ion.specs.declared.offset.Offset.{Offset}
 use Rattle.text.proofs.Digits.{padded-digits}
 use Rattle.fraction.proofs.Scales.{units-lt, cut-le}
-use Rattle.fraction.proofs.Caps.{cap-low}
+use Rattle.fraction.proofs.Capped.{cap-low}
 use Rattle.timestamp.proofs.Valid.{valid-in-range, valid-offset}
 use Rattle.timestamp_text.proofs.Numbers.{value-digits, run-digits}
 use Rattle.timestamp_text.proofs.Offsets.{read-offset, run-offset, offset-mark}

@@ -8,7 +8,7 @@ use native.Mathlib.Omega.{arith}
 use lib.IntN.{ℤ, pos, negsuc, natAbs}
 use lib.Signed.{ltZ}
 use Rattle.integers.proofs.Parts.{lt-parts, ge-parts}
-use Rattle.ion.specs.Text.{clockText, zeroText, minutesText}
+use Rattle.ion.specs.Text.Format.{clockText, zeroText, minutesText}
 
 pub minutes-below : (z : ℤ) → ltZ z (pos 0) ≡ true → minutesText z ≡ code "-" ∷ clockText (natAbs z)
 unfolding minutesText

@@ -2,8 +2,8 @@
 use Prim.Native.Nat.{ℕ}
 use Prim.Native.Char.{code}
 use mathlib.Core.List.{List, _++_}
-use Rattle.ion.specs.Padded.{padded}
-use Rattle.ion.specs.Text.{marked, fractionText}
+use Rattle.ion.specs.Numbers.Padded.{padded}
+use Rattle.ion.specs.Text.Format.{marked, fractionText}
 use Rattle.ion.specs.declared.Fields.{Fields}
 
 abbrev pub toMonth : Fields → List ℕ

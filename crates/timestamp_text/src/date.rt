@@ -4,8 +4,8 @@ use ion::Fields;
 use text::text_formatter;
 ghost use Prim.Native.Nat.{_+_, _≤_};
 ghost use lib.ListN.{length};
-ghost use Rattle.ion.specs.Output.{Run};
-ghost use Rattle.ion.specs.Word.{InRange};
+ghost use Rattle.ion.specs.Calls.Output.{Run};
+ghost use Rattle.ion.specs.Pair.Word.{InRange};
 ghost use Rattle.timestamp_text.specs.Fronts.{toMonth, toDay, toMinute};
 
 pub(crate) fn format_year_and_month(b: &mut [u8], at: usize, f: Fields) -> usize

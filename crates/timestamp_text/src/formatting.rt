@@ -9,10 +9,10 @@ use text::text_formatter;
 ghost use mathlib.Core.Path.{_≡_};
 ghost use Prim.Native.Nat.{_+_, _≤_};
 ghost use lib.ListN.{length};
-ghost use Rattle.ion.specs.Accepted.{Valid};
-ghost use Rattle.ion.specs.Check.{checkOf};
-ghost use Rattle.ion.specs.Output.{Run, putAfter, wroteAfter};
-ghost use Rattle.ion.specs.Text.{fieldsText, textOf};
+ghost use Rattle.ion.specs.Calls.Accepted.{Valid};
+ghost use Rattle.ion.specs.Calls.Check.{checkNumber};
+ghost use Rattle.ion.specs.Calls.Output.{Run, putAfter, wroteAfter};
+ghost use Rattle.ion.specs.Text.Format.{fieldsText, textOf};
 ghost use Rattle.timestamp_text.specs.Length.{textLength};
 
 // How long the text is at a precision, with a number of digits.
@@ -68,9 +68,9 @@ pub fn text_into(b: &mut [u8], at: usize, f: Fields, attoseconds: u64) -> usize
 
 // Writes the text of a timestamp from index `at` on.
 pub fn format(buf: &mut [u8], at: usize, s: Timestamp) -> Written
-    ensures { λ r. ⌜ (r ≡ wroteAfter (checkOf s .number) (now (buf .entry)) at (textOf s)) × (now (buf .exit) ≡ putAfter (checkOf s .number) (now (buf .entry)) at (textOf s)) ⌝ }
+    ensures { λ r. ⌜ (r ≡ wroteAfter (checkNumber s) (now (buf .entry)) at (textOf s)) × (now (buf .exit) ≡ putAfter (checkNumber s) (now (buf .entry)) at (textOf s)) ⌝ }
 {
-    let number = timestamp::number_of(s);
+    let number = timestamp::check_number(s);
     if number != 0 {
         return Written {
             number: number,
@@ -78,7 +78,7 @@ pub fn format(buf: &mut [u8], at: usize, s: Timestamp) -> Written
         };
     }
     let f = packed::unpack(s.packed_fields);
-    let answer = output::room(buf.len(), at, text_length(f.precision, f.digits));
+    let answer = output::room_for(buf.len(), at, text_length(f.precision, f.digits));
     if answer.number != 0 {
         return answer;
     }

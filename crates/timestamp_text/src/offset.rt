@@ -8,9 +8,9 @@ use text::text_formatter;
 ghost use Prim.Native.Nat.{_+_, _≤_, _<_};
 ghost use lib.IntN.{natAbs};
 ghost use lib.ListN.{length};
-ghost use Rattle.ion.specs.Output.{Run};
-ghost use Rattle.ion.specs.Offset.{offsetOf};
-ghost use Rattle.ion.specs.Text.{clockText, minutesText, offsetText};
+ghost use Rattle.ion.specs.Calls.Output.{Run};
+ghost use Rattle.ion.specs.Pair.Offset.{offsetOf};
+ghost use Rattle.ion.specs.Text.Format.{clockText, minutesText, offsetText};
 
 // Hours and minutes.
 fn put_clock(b: &mut [u8], at: usize, minutes: u32) -> usize

@@ -3,8 +3,8 @@ use text::text_formatter;
 ghost use mathlib.Core.List.{[], _∷_};
 ghost use Prim.Native.Nat.{_+_, _^_, _≤_, _<_};
 ghost use lib.ListN.{length};
-ghost use Rattle.ion.specs.Output.{Run};
-ghost use Rattle.ion.specs.Text.{marked, fractionText};
+ghost use Rattle.ion.specs.Calls.Output.{Run};
+ghost use Rattle.ion.specs.Text.Format.{marked, fractionText};
 ghost use Rattle.timestamp_text.specs.Length.{fractionLength};
 
 pub(crate) fn put_byte(b: &mut [u8], at: usize, byte: u8) -> usize

@@ -1,7 +1,7 @@
 -- `builder::with_ymd` meets its contract. Assumes nothing.
 use mathlib.Core.Path.{ap, _∙_}
 use borrow.Author.Needs.{needs}
-use Rattle.ion.specs.Stages.{withMonth, withDay}
+use Rattle.ion.specs.Calls.Stages.{withMonth, withDay}
 use Rattle.ion.specs.declared.BuilderFields.{BuilderFields}
 use Rattle.builder.proofs.with_ymd.Statement.{statement}
 use Rattle.builder.proofs.with_ymd.Tie as tie

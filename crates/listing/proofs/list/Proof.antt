@@ -6,11 +6,11 @@ use Prim.Native.Nat.{ℕ, _+_, _-_, _≤_}
 use native.Mathlib.Omega.{arith}
 use lib.ListN.{length, drop, length-drop}
 use lib.Seq.{take-all}
-use Rattle.ion.specs.Accepted.{Accepted}
-use Rattle.ion.specs.Output.{Run}
-use Rattle.ion.specs.ReadValue.{readOf}
-use Rattle.ion.specs.Stamps.{stopLine, lineOf}
-use Rattle.ion.specs.Text.{textOf}
+use Rattle.ion.specs.Calls.Accepted.{Accepted}
+use Rattle.ion.specs.Calls.Output.{Run}
+use Rattle.ion.specs.Value.ReadValue.{readValue}
+use Rattle.ion.specs.Calls.Stamps.{stopLine, lineOf}
+use Rattle.ion.specs.Text.Format.{textOf}
 use Rattle.ion.specs.declared.Read.{Read}
 use Rattle.timestamp_binary.proofs.Readings.{read-is}
 use Rattle.listing.proofs.Lines.{taken-some, output-long, output-lines}
@@ -54,12 +54,12 @@ read-value-requires c κs = search needs
 
 -- what was read, of the rest of the input
 module _ (v : tie.After-read-value Inv-loop μ-loop) where
-  whole : v .read-value .result ≡ readOf (drop (v .before .before .before .loop .at) (v .before .before .before .before .before .before .before .args .input .now))
+  whole : v .read-value .result ≡ readValue (drop (v .before .before .before .loop .at) (v .before .before .before .before .before .before .before .args .input .now))
   whole =
       let l = v .before .before .before in
       let s = l .before .before .before .before in
       let input = s .args .input .now in
-      v .read-value .ensures ∙ ap readOf (take-all (length input - l .loop .at) (drop (l .loop .at) input) (omega (arith, length-drop (l .loop .at) input)))
+      v .read-value .ensures ∙ ap readValue (take-all (length input - l .loop .at) (drop (l .loop .at) input) (omega (arith, length-drop (l .loop .at) input)))
 
 put-stop-requires-2 : tie.Need-put-stop-requires-2 Inv-loop μ-loop
 put-stop-requires-2 c κs =
@@ -99,10 +99,10 @@ put-text-requires c κs =
 -- ---- after a line
 
 module _ (c : tie.After-put-text Inv-loop μ-loop) where
-  ok : readOf (drop (c .before .before .before .before .before .before .loop .at) (c .before .before .before .before .before .before .before .before .before .before .args .input .now)) .number ≡ 0
+  ok : readValue (drop (c .before .before .before .before .before .before .loop .at) (c .before .before .before .before .before .before .before .before .before .before .args .input .now)) .number ≡ 0
   ok = sym (ap (λ (r : Read). r .number) (whole (c .before .before .before))) ∙ c .before .before .if2 .left
 
-  taken : c .before .before .before .read-value .result .taken ≡ readOf (drop (c .before .before .before .before .before .before .loop .at) (c .before .before .before .before .before .before .before .before .before .before .args .input .now)) .taken
+  taken : c .before .before .before .read-value .result .taken ≡ readValue (drop (c .before .before .before .before .before .before .loop .at) (c .before .before .before .before .before .before .before .before .before .before .args .input .now)) .taken
   taken = ap (λ (r : Read). r .taken) (whole (c .before .before .before))
 
 add-at : tie.Need-add-at Inv-loop μ-loop

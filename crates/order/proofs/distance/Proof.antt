@@ -1,17 +1,17 @@
 -- `order::distance` meets its contract. Assumes nothing.
 use mathlib.Core.Path.{_≡_, sym, _∙_}
 use borrow.Author.Needs.{needs}
-use Rattle.ion.specs.Order.{numberOfTwo}
+use Rattle.ion.specs.Calls.Order.{checkBoth}
 use Rattle.order.proofs.Answers.{both-accepted, distance-zero, distance-refused}
 use Rattle.order.proofs.distance.Statement.{statement}
 use Rattle.order.proofs.distance.Tie as tie
 
 returns : tie.Need-returns
-returns c = distance-refused _ _ (c .before .number-of-two .ensures) (c .if1 .taken)
+returns c = distance-refused _ _ (c .before .check-both .ensures) (c .if1 .taken)
 
 -- both checks have answered 0
-zero : (c : tie.Else1) → let x = c .before .before .args in numberOfTwo (x .s) (x .t) ≡ 0
-zero c = sym (c .before .number-of-two .ensures) ∙ c .if1 .left
+zero : (c : tie.Else1) → let x = c .before .before .args in checkBoth (x .s) (x .t) ≡ 0
+zero c = sym (c .before .check-both .ensures) ∙ c .if1 .left
 
 distance-of-requires : tie.Need-distance-of-requires
 distance-of-requires c κs = both-accepted _ _ (zero c)

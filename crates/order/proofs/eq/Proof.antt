@@ -5,8 +5,8 @@ use lib.IntN.{ℤ}
 use mir.Syntax.{w32}
 use mir.Val.{ofZ}
 use borrow.Author.Needs.{needs}
-use Rattle.ion.specs.Count.{countOf}
-use Rattle.ion.specs.Order.{numberOfTwo}
+use Rattle.ion.specs.Pair.Count.{countOf}
+use Rattle.ion.specs.Calls.Order.{checkBoth}
 use Rattle.order.specs.Answers.{compared}
 use Rattle.order.proofs.Orders.{order-zero}
 use Rattle.order.proofs.Answers.{both-accepted, eq-zero, eq-refused}
@@ -14,11 +14,11 @@ use Rattle.order.proofs.eq.Statement.{statement}
 use Rattle.order.proofs.eq.Tie as tie
 
 returns : tie.Need-returns
-returns c = eq-refused _ _ (c .before .number-of-two .ensures) (c .if1 .taken)
+returns c = eq-refused _ _ (c .before .check-both .ensures) (c .if1 .taken)
 
 -- both checks have answered 0
-zero : (c : tie.Else1) → let x = c .before .before .args in numberOfTwo (x .s) (x .t) ≡ 0
-zero c = sym (c .before .number-of-two .ensures) ∙ c .if1 .left
+zero : (c : tie.Else1) → let x = c .before .before .args in checkBoth (x .s) (x .t) ≡ 0
+zero c = sym (c .before .check-both .ensures) ∙ c .if1 .left
 
 order-of-requires : tie.Need-order-of-requires
 order-of-requires c κs = let x = c .before .before .args in let p = both-accepted (x .s) (x .t) (zero c) in search needs

@@ -2,18 +2,18 @@
 use mathlib.Core.Path.{_≡_, sym, ap, _∙_}
 use mir.Facts.{toZ-ofZ}
 use borrow.Author.Needs.{needs, sfits-of}
-use Rattle.ion.specs.Order.{numberOfTwo}
+use Rattle.ion.specs.Calls.Order.{checkBoth}
 use Rattle.order.specs.Answers.{ordered}
 use Rattle.order.proofs.Answers.{ion-cmp-zero, ion-cmp-refused}
 use Rattle.order.proofs.ion_cmp.Statement.{statement}
 use Rattle.order.proofs.ion_cmp.Tie as tie
 
 returns : tie.Need-returns
-returns c = ion-cmp-refused _ _ (c .before .number-of-two .ensures) (c .if1 .taken)
+returns c = ion-cmp-refused _ _ (c .before .check-both .ensures) (c .if1 .taken)
 
 -- both checks have answered 0
-zero : (c : tie.Else1) → let x = c .before .before .args in numberOfTwo (x .s) (x .t) ≡ 0
-zero c = sym (c .before .number-of-two .ensures) ∙ c .if1 .left
+zero : (c : tie.Else1) → let x = c .before .before .args in checkBoth (x .s) (x .t) ≡ 0
+zero c = sym (c .before .check-both .ensures) ∙ c .if1 .left
 
 returns-2 : tie.Need-returns-2
 returns-2 c = ap ordered (toZ-ofZ (sfits-of (c .order-of-pairs .ok)) ∙ c .order-of-pairs .ensures) ∙ sym (ion-cmp-zero _ _ (zero (c .before)))

@@ -3,8 +3,8 @@ use mathlib.Core.Path.{sym, _∙_}
 use lib.Dec.{lit≤}
 use lib.Bits.{or-zero-r}
 use borrow.Author.Needs.{needs}
-use Rattle.ion.specs.Word.{widths, valuesOf, wordOf}
-use Rattle.packed.proofs.Ors.{ors-join}
+use Rattle.ion.specs.Pair.Word.{widths, valuesOf, wordOf}
+use Rattle.packed.proofs.Assembly.{ors-join}
 use Rattle.packed.proofs.pack.Statement.{statement}
 use Rattle.packed.proofs.pack.Tie as tie
 

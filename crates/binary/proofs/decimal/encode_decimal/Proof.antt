@@ -5,8 +5,8 @@ use mathlib.Core.List.{List}
 use Prim.Native.Nat.{ℕ}
 use lib.ListN.{length}
 use mir.Facts.{toZ-ofZ}
-use Rattle.ion.specs.Output.{wrote, roomFor, Run}
-use Rattle.ion.specs.Decimal.{decimalBytes}
+use Rattle.ion.specs.Calls.Output.{wrote, roomFor, Run}
+use Rattle.ion.specs.Numbers.Decimal.{decimalBytes}
 use Rattle.output.proofs.Stores.{has-room, refused-writing, written}
 use Rattle.binary.proofs.decimal.encode_decimal.Statement.{statement}
 use Rattle.binary.proofs.decimal.encode_decimal.Tie as tie
@@ -14,13 +14,13 @@ use Rattle.binary.proofs.decimal.encode_decimal.Tie as tie
 abbrev bytes : tie.Start → List ℕ
 bytes c = decimalBytes (c .args .coefficient) (c .args .exponent)
 
-answered : (c : tie.After-room)
-    → let s = c .before .before .before in c .room .result ≡ wrote (s .args .buf .now) (s .args .at) (bytes s)
+answered : (c : tie.After-room-for)
+    → let s = c .before .before .before in c .room-for .result ≡ wrote (s .args .buf .now) (s .args .at) (bytes s)
 answered c =
     let s = c .before .before .before in
     let f = s .fits .exponent in
     let n : c .before .encoded-size-of .result ≡ length (bytes s) = simp toZ-ofZ at (c .before .encoded-size-of .ensures) in
-    c .room .ensures ∙ ap (roomFor (length (s .args .buf .now)) (s .args .at)) n
+    c .room-for .ensures ∙ ap (roomFor (length (s .args .buf .now)) (s .args .at)) n
 
 returns : tie.Need-returns
 returns c =

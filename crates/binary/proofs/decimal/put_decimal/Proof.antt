@@ -8,8 +8,8 @@ use native.Mathlib.Omega.{arith}
 use lib.Dec.{eqb}
 use lib.IntN.{natAbs}
 use lib.ListN.{length}
-use Rattle.ion.specs.VarInt.{signedCount, signed, varint}
-use Rattle.ion.specs.Int.{intCount, int}
+use Rattle.ion.specs.Numbers.VarInt.{signedCount, signed, varint}
+use Rattle.ion.specs.Numbers.Int.{intCount, int}
 use Rattle.output.proofs.Runs.{run-none, run-two, run-is}
 use Rattle.binary.proofs.VarInts.{handed-on, length-signed}
 use Rattle.binary.proofs.Ints.{length-int}

@@ -3,7 +3,7 @@ use borrow.Author.Needs.{needs}
 use mathlib.Core.Path.{sym, ap, _∙_}
 use native.Mathlib.Omega.{arith}
 use lib.Count.{leading-le}
-use Rattle.ion.specs.Int.{intCount}
+use Rattle.ion.specs.Numbers.Int.{intCount}
 use Rattle.binary.proofs.Ints.{int-zero, int-zeros}
 use Rattle.binary.proofs.int.encoded_size_of.Statement.{statement}
 use Rattle.binary.proofs.int.encoded_size_of.Tie as tie

@@ -10,8 +10,8 @@ use lib.ListN.{length, drop, getD, drop-of-length-le}
 use lib.Seq.{drop-cons}
 use Rattle.places.specs.Places.{plain, valueFrom}
 use Rattle.places.proofs.Values.{value-above}
-use Rattle.ion.specs.Int.{intCount, bigEndian}
-use Rattle.ion.specs.NumberReads.{intAnswer}
+use Rattle.ion.specs.Numbers.Int.{intCount, bigEndian}
+use Rattle.ion.specs.Numbers.NumberReads.{intAnswer}
 use Rattle.binary.proofs.Numbered.{numbered}
 use Rattle.binary.proofs.Ints.{read-shortest, read-longer, read-above, read-long}
 use Rattle.binary.proofs.int.read_u64.Statement.{statement}

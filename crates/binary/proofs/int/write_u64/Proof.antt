@@ -3,18 +3,18 @@ use borrow.Author.Needs.{needs}
 use mathlib.Core.Path.{_≡_, sym, ap, _∙_}
 use native.Mathlib.Omega.{arith}
 use lib.ListN.{length}
-use Rattle.ion.specs.Output.{over, wrote, roomFor}
-use Rattle.ion.specs.Int.{int}
+use Rattle.ion.specs.Calls.Output.{over, wrote, roomFor}
+use Rattle.ion.specs.Numbers.Int.{int}
 use Rattle.output.proofs.Stores.{has-room, refused-writing, written}
 use Rattle.binary.proofs.Ints.{length-int, bytes-int}
 use Rattle.binary.proofs.int.write_u64.Statement.{statement}
 use Rattle.binary.proofs.int.write_u64.Tie as tie
 
-answered : (c : tie.After-room)
-    → let a = c .before .before .before .args in c .room .result ≡ wrote (a .buf .now) (a .at) (int (a .value))
+answered : (c : tie.After-room-for)
+    → let a = c .before .before .before .args in c .room-for .result ≡ wrote (a .buf .now) (a .at) (int (a .value))
 answered c =
     let a = c .before .before .before .args in
-    c .room .ensures ∙ ap (roomFor (length (a .buf .now)) (a .at)) (c .before .encoded-size-of .ensures ∙ sym (length-int (a .value)))
+    c .room-for .ensures ∙ ap (roomFor (length (a .buf .now)) (a .at)) (c .before .encoded-size-of .ensures ∙ sym (length-int (a .value)))
 
 returns : tie.Need-returns
 returns c =

@@ -6,9 +6,9 @@ use lib.IntN.{ℤ, pos, negsuc}
 use lib.Signed.{ltZ}
 use mir.Syntax.{w64}
 use mir.Facts.{toZ-ofZ}
-use Rattle.integers.proofs.Parts.{to-unsigned, may-cast, gives-fits, lt-parts, ge-parts}
+use Rattle.integers.proofs.Parts.{to-unsigned, may-cast, natural-fits, lt-parts, ge-parts}
 use Rattle.integers.proofs.Signs.{size-most, size-some, itself-is, nearer-fits, nearer-is}
-use Rattle.ion.specs.VarInt.{isNegative}
+use Rattle.ion.specs.Numbers.VarInt.{isNegative}
 use Rattle.binary.proofs.var_int.parts_of.Statement.{statement}
 use Rattle.binary.proofs.var_int.parts_of.Tie as tie
 
@@ -38,27 +38,27 @@ sub-t4 : tie.Need-sub-t4
 sub-t4 c =
     let f = c .before .fits .value in
     let g = nearer-fits w64 (value c) f (below c) in
-    simp toZ-ofZ (gives-fits w64 (nearer-is (value c) (below c)) (omega (arith, size-most w64 (value c) f, size-some (value c) (below c))))
+    simp toZ-ofZ (natural-fits w64 (nearer-is (value c) (below c)) (omega (arith, size-most w64 (value c) f, size-some (value c) (below c))))
 
 cast-t5 : tie.Need-cast-t5
 cast-t5 c =
     let f = c .before .fits .value in
     let g = nearer-fits w64 (value c) f (below c) in
-    let k = gives-fits w64 (nearer-is (value c) (below c)) (omega (arith, size-most w64 (value c) f, size-some (value c) (below c))) in
+    let k = natural-fits w64 (nearer-is (value c) (below c)) (omega (arith, size-most w64 (value c) f, size-some (value c) (below c))) in
     simp toZ-ofZ (may-cast w64 (nearer-is (value c) (below c)) (omega (arith, size-most w64 (value c) f)))
 
 add-t6 : tie.Need-add-t6
 add-t6 c =
     let f = c .before .fits .value in
     let g = nearer-fits w64 (value c) f (below c) in
-    let k = gives-fits w64 (nearer-is (value c) (below c)) (omega (arith, size-most w64 (value c) f, size-some (value c) (below c))) in
+    let k = natural-fits w64 (nearer-is (value c) (below c)) (omega (arith, size-most w64 (value c) f, size-some (value c) (below c))) in
     simp toZ-ofZ (omega (arith, to-unsigned (nearer-is (value c) (below c)), size-most w64 (value c) f))
 
 returns : tie.Need-returns
 returns c =
     let f = c .before .fits .value in
     let g = nearer-fits w64 (value c) f (below c) in
-    let k = gives-fits w64 (nearer-is (value c) (below c)) (omega (arith, size-most w64 (value c) f, size-some (value c) (below c))) in
+    let k = natural-fits w64 (nearer-is (value c) (below c)) (omega (arith, size-most w64 (value c) f, size-some (value c) (below c))) in
     simp toZ-ofZ (sign-below (value c) (below c), omega (arith, to-unsigned (nearer-is (value c) (below c)), size-some (value c) (below c)))
 
 cast-t7 : tie.Need-cast-t7

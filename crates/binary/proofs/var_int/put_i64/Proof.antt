@@ -3,7 +3,7 @@ use borrow.Author.Needs.{needs}
 use mathlib.Core.Path.{_≡_, ap}
 use native.Mathlib.Omega.{arith}
 use lib.IntN.{natAbs}
-use Rattle.ion.specs.VarInt.{signedCount, signed, varint}
+use Rattle.ion.specs.Numbers.VarInt.{signedCount, signed, varint}
 use Rattle.output.proofs.Runs.{run-is}
 use Rattle.binary.proofs.VarInts.{handed-on}
 use Rattle.binary.proofs.var_int.put_i64.Statement.{statement}

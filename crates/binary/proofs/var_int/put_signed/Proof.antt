@@ -5,9 +5,9 @@ use mathlib.Core.Bool.{true}
 use Prim.Native.Nat.{ℕ, _+_, _<_}
 use native.Mathlib.Omega.{arith}
 use lib.ListN.{length, getD, set}
-use Rattle.ion.specs.VarUInt.{groups}
-use Rattle.ion.specs.Output.{over}
-use Rattle.ion.specs.VarInt.{signedCount, signed}
+use Rattle.ion.specs.Numbers.VarUInt.{groups}
+use Rattle.ion.specs.Calls.Output.{over}
+use Rattle.ion.specs.Numbers.VarInt.{signedCount, signed}
 use Rattle.binary.proofs.VarInts.{signed-some}
 use Rattle.binary.proofs.Stored.{sign-stored, put-unsigned}
 use Rattle.binary.proofs.var_int.put_signed.Statement.{statement}

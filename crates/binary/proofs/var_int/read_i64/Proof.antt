@@ -10,9 +10,9 @@ use native.Mathlib.Omega.{arith}
 use lib.Dec.{leb, ltb}
 use lib.ListN.{drop, getD, drop-of-length-le}
 use lib.Seq.{drop-cons}
-use Rattle.ion.specs.VarUInt.{scanFrom}
-use Rattle.ion.specs.VarInt.{ifShortest, readVarInt}
-use Rattle.ion.specs.NumberReads.{varIntAnswer}
+use Rattle.ion.specs.Numbers.VarUInt.{scanFrom}
+use Rattle.ion.specs.Numbers.VarInt.{ifShortest, readVarInt}
+use Rattle.ion.specs.Numbers.NumberReads.{varIntAnswer}
 use Rattle.ion.specs.declared.VarIntRead.the-variants.{Value, Bad}
 use Rattle.binary.proofs.Numbered.{numbered}
 use Rattle.binary.proofs.VarInts.{read-none, read-alone, read-first, signed-u64}

@@ -2,8 +2,8 @@
 use borrow.Author.Needs.{needs}
 use mathlib.Core.Path.{_≡_, ap, _∙_}
 use lib.IntN.{natAbs}
-use Rattle.ion.specs.Output.{put, wrote}
-use Rattle.ion.specs.VarInt.{signed, varint}
+use Rattle.ion.specs.Calls.Output.{put, wrote}
+use Rattle.ion.specs.Numbers.VarInt.{signed, varint}
 use Rattle.binary.proofs.VarInts.{handed-on}
 use Rattle.binary.proofs.var_int.write_i64.Statement.{statement}
 use Rattle.binary.proofs.var_int.write_i64.Tie as tie

@@ -3,27 +3,27 @@ use borrow.Author.Needs.{needs}
 use mathlib.Core.Path.{_≡_, sym, ap, _∙_}
 use native.Mathlib.Omega.{arith}
 use lib.ListN.{length}
-use Rattle.ion.specs.Output.{roomFor, wrote}
-use Rattle.ion.specs.VarInt.{signed}
+use Rattle.ion.specs.Calls.Output.{roomFor, wrote}
+use Rattle.ion.specs.Numbers.VarInt.{signed}
 use Rattle.output.proofs.Stores.{has-room, refused-writing, written}
 use Rattle.binary.proofs.VarInts.{length-signed}
 use Rattle.binary.proofs.var_int.write_parts.Statement.{statement}
 use Rattle.binary.proofs.var_int.write_parts.Tie as tie
 
 -- the answer is that for the bytes of the sign and the magnitude
-answered : (c : tie.After-room) →
+answered : (c : tie.After-room-for) →
     let a = c .before .before .before .args in
-    c .room .result ≡ wrote (a .buf .now) (a .at) (signed (a .p .negative) (a .p .magnitude))
+    c .room-for .result ≡ wrote (a .buf .now) (a .at) (signed (a .p .negative) (a .p .magnitude))
 answered c =
     let a = c .before .before .before .args in
-    c .room .ensures
+    c .room-for .ensures
     ∙ ap (roomFor (length (a .buf .now)) (a .at)) (c .before .encoded-size-of .ensures ∙ sym (length-signed (a .p .negative) (a .p .magnitude)))
 
 encoded-size-of-requires : tie.Need-encoded-size-of-requires
 encoded-size-of-requires c κs = search needs
 
-room-requires : tie.Need-room-requires
-room-requires c κs = search needs
+room-for-requires : tie.Need-room-for-requires
+room-for-requires c κs = search needs
 
 returns : tie.Need-returns
 returns c =
@@ -54,7 +54,7 @@ write-parts-spec =
     tie.close
     (tie.spec
     encoded-size-of-requires
-    room-requires
+    room-for-requires
     returns
     put-signed-requires
     same-length

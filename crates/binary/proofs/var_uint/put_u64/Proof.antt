@@ -2,7 +2,7 @@
 use borrow.Author.Needs.{needs}
 use mathlib.Core.Path.{ap, _∙_}
 use native.Mathlib.Omega.{arith}
-use Rattle.ion.specs.Output.{over}
+use Rattle.ion.specs.Calls.Output.{over}
 use Rattle.binary.proofs.VarUInts.{count-some, groups-varuint, length-varuint}
 use Rattle.binary.proofs.var_uint.put_u64.Statement.{statement}
 use Rattle.binary.proofs.var_uint.put_u64.Tie as tie

@@ -10,7 +10,7 @@ use native.Mathlib.Omega.{arith}
 use lib.Dec.{lit<}
 use lib.ListN.{drop, getD, drop-of-length-le}
 use lib.Seq.{drop-cons}
-use Rattle.ion.specs.VarUInt.{scanFrom}
+use Rattle.ion.specs.Numbers.VarUInt.{scanFrom}
 use Rattle.binary.proofs.Groups.{scan-last, scan-more, scan-full}
 use Rattle.binary.proofs.var_uint.read_groups.Statement.{statement}
 use Rattle.binary.proofs.var_uint.read_groups.Tie as tie

@@ -5,8 +5,8 @@ use Prim.Native.Nat.{ℕ, _-_}
 use native.Mathlib.Omega.{arith}
 use lib.Dec.{lit<}
 use lib.ListN.{drop}
-use Rattle.ion.specs.VarUInt.{scanFrom}
-use Rattle.ion.specs.NumberReads.{varUIntAnswer}
+use Rattle.ion.specs.Numbers.VarUInt.{scanFrom}
+use Rattle.ion.specs.Numbers.NumberReads.{varUIntAnswer}
 use Rattle.binary.proofs.Numbered.{numbered}
 use Rattle.binary.proofs.VarUInts.{count-u64, read-padded, read-scanned}
 use Rattle.binary.proofs.var_uint.read_u64.Statement.{statement}

@@ -3,26 +3,26 @@ use borrow.Author.Needs.{needs}
 use mathlib.Core.Path.{_≡_, sym, ap, _∙_}
 use native.Mathlib.Omega.{arith}
 use lib.ListN.{length}
-use Rattle.ion.specs.Output.{over, roomFor, wrote}
-use Rattle.ion.specs.VarUInt.{varuint}
+use Rattle.ion.specs.Calls.Output.{over, roomFor, wrote}
+use Rattle.ion.specs.Numbers.VarUInt.{varuint}
 use Rattle.output.proofs.Stores.{has-room, refused-writing, written}
 use Rattle.binary.proofs.VarUInts.{count-some, groups-varuint, length-varuint}
 use Rattle.binary.proofs.var_uint.write_u64.Statement.{statement}
 use Rattle.binary.proofs.var_uint.write_u64.Tie as tie
 
 -- the answer is that for the bytes of the value
-answered : (c : tie.After-room) →
+answered : (c : tie.After-room-for) →
     let a = c .before .before .before .args in
-    c .room .result ≡ wrote (a .buf .now) (a .at) (varuint (a .value))
+    c .room-for .result ≡ wrote (a .buf .now) (a .at) (varuint (a .value))
 answered c =
     let a = c .before .before .before .args in
-    c .room .ensures ∙ ap (roomFor (length (a .buf .now)) (a .at)) (c .before .encoded-size-of .ensures ∙ sym (length-varuint (a .value)))
+    c .room-for .ensures ∙ ap (roomFor (length (a .buf .now)) (a .at)) (c .before .encoded-size-of .ensures ∙ sym (length-varuint (a .value)))
 
 encoded-size-of-requires : tie.Need-encoded-size-of-requires
 encoded-size-of-requires c κs = search needs
 
-room-requires : tie.Need-room-requires
-room-requires c κs = search needs
+room-for-requires : tie.Need-room-for-requires
+room-for-requires c κs = search needs
 
 returns : tie.Need-returns
 returns c =
@@ -54,7 +54,7 @@ write-u64-spec =
     tie.close
     (tie.spec
     encoded-size-of-requires
-    room-requires
+    room-for-requires
     returns
     put-groups-requires
     same-length

@@ -6,7 +6,7 @@ use Prim.Native.Nat.{suc}
 use native.Mathlib.Omega.{arith}
 use lib.ListN.{drop, getD, length-drop, drop-of-length-le}
 use lib.Seq.{drop-cons}
-use Rattle.ion.specs.VarUInt.{zeroFirst}
+use Rattle.ion.specs.Numbers.VarUInt.{zeroFirst}
 use Rattle.binary.proofs.VarUInts.{first-of-two}
 use Rattle.binary.proofs.var_uint.zero_first.Statement.{statement}
 use Rattle.binary.proofs.var_uint.zero_first.Tie as tie

@@ -1,7 +1,7 @@
 -- `builder::HasDay::with_hms` meets its contract. Assumes nothing.
 use mathlib.Core.Path.{ap, _∙_}
 use borrow.Author.Needs.{needs}
-use Rattle.ion.specs.Stages.{withSecond}
+use Rattle.ion.specs.Calls.Stages.{withSecond}
 use Rattle.ion.specs.declared.BuilderFields.{BuilderFields}
 use Rattle.builder.proofs.HasDay.with_hms.Statement.{statement}
 use Rattle.builder.proofs.HasDay.with_hms.Tie as tie

@@ -1,7 +1,7 @@
 -- `builder::HasDay::with_hour_and_minute` meets its contract. Assumes nothing.
 use mathlib.Core.Path.{ap, _∙_}
 use borrow.Author.Needs.{needs}
-use Rattle.ion.specs.Stages.{withMinute}
+use Rattle.ion.specs.Calls.Stages.{withMinute}
 use Rattle.ion.specs.declared.BuilderFields.{BuilderFields}
 use Rattle.builder.proofs.HasDay.with_hour_and_minute.Statement.{statement}
 use Rattle.builder.proofs.HasDay.with_hour_and_minute.Tie as tie

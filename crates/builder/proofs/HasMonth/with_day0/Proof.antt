@@ -1,7 +1,7 @@
 -- `builder::HasMonth::with_day0` meets its contract. Assumes nothing.
 use mathlib.Core.Path.{ap, _∙_}
 use borrow.Author.Needs.{needs}
-use Rattle.ion.specs.Stages.{withDay}
+use Rattle.ion.specs.Calls.Stages.{withDay}
 use Rattle.builder.proofs.HasMonth.with_day0.Statement.{statement}
 use Rattle.builder.proofs.HasMonth.with_day0.Tie as tie
 

@@ -1,7 +1,7 @@
 -- `builder::HasSeconds::with_milliseconds` meets its contract. Assumes nothing.
 use mathlib.Core.Path.{ap, _∙_}
 use borrow.Author.Needs.{needs}
-use Rattle.ion.specs.Stages.{withFraction}
+use Rattle.ion.specs.Calls.Stages.{withFraction}
 use Rattle.builder.proofs.HasSeconds.with_milliseconds.Statement.{statement}
 use Rattle.builder.proofs.HasSeconds.with_milliseconds.Tie as tie
 

@@ -1,7 +1,7 @@
 -- `builder::HasYear::with_month0` meets its contract. Assumes nothing.
 use mathlib.Core.Path.{ap, _∙_}
 use borrow.Author.Needs.{needs}
-use Rattle.ion.specs.Stages.{withMonth}
+use Rattle.ion.specs.Calls.Stages.{withMonth}
 use Rattle.builder.proofs.HasYear.with_month0.Statement.{statement}
 use Rattle.builder.proofs.HasYear.with_month0.Tie as tie
 

@@ -2,10 +2,10 @@
 use mathlib.Core.Path.{_≡_, sym, ap, subst, _∙_}
 use Prim.Native.Nat.{ℕ}
 use borrow.Author.Needs.{needs}
-use Rattle.ion.specs.Word.{InRange, wordOf}
+use Rattle.ion.specs.Pair.Word.{InRange, wordOf}
 use Rattle.ion.specs.declared.Fields.{Fields}
-use Rattle.ion.specs.Pair.{pairIs}
-use Rattle.ion.specs.Build.{packedOf, accepted}
+use Rattle.ion.specs.Pair.Pair.{packedPair}
+use Rattle.ion.specs.Calls.Build.{packedOf, acceptedBuild}
 use Rattle.builder.proofs.answer.finish.Statement.{statement}
 use Rattle.builder.proofs.answer.finish.Tie as tie
 
@@ -43,7 +43,7 @@ pack-requires c κs = subst InRange (sym (same c)) (c .before .before .before .p
 
 returns : tie.Need-returns
 returns c =
-    ap (λ (w : ℕ). accepted (pairIs w (c .before .before .before .before .args .f .attoseconds))) (c .pack .ensures ∙ ap wordOf (same (c .before)))
+    ap (λ (w : ℕ). acceptedBuild (packedPair w (c .before .before .before .before .args .f .attoseconds))) (c .pack .ensures ∙ ap wordOf (same (c .before)))
 
 pub finish-spec : {M : Type 1} → statement M
 finish-spec =

@@ -1,9 +1,9 @@
 -- `builder::building::build` meets its contract. Assumes nothing.
 use mathlib.Core.Path.{_≡_, sym, ap, subst, _∙_}
 use borrow.Author.Needs.{needs}
-use Rattle.ion.specs.Offset.{WithinDay, minutesIs, minutesOf}
-use Rattle.ion.specs.Build.{firstOf, ranges, offsetIs, localChecks, givenTime, pairAt, refusal, answer}
-use Rattle.ion.specs.Accepted.{InBounds}
+use Rattle.ion.specs.Pair.Offset.{WithinDay, offsetMinutes, minutesOf}
+use Rattle.ion.specs.Calls.Build.{firstOf, rangeChecks, offsetGiven, localChecks, givenTime, pairAt, refusedBuild, buildAnswer}
+use Rattle.ion.specs.Calls.Accepted.{InBounds}
 use Rattle.ion.specs.declared.offset.Offset.{Offset}
 use Rattle.builder.proofs.Checks.{AllPass}
 use Rattle.builder.proofs.Bounds.{in-bounds}
@@ -13,26 +13,26 @@ use Rattle.builder.proofs.building.build.Tie as tie
 
 returns : tie.Need-returns
 returns c =
-    let e = c .before .before .check-ranges .ensures in
-    c .refused .ensures ∙ ap refusal e ∙ sym (build-refused (c .before .before .before .args .f) (λ z. c .before .if1 .taken (e ∙ z)))
+    let e = c .before .before .validate-field-ranges .ensures in
+    c .refused .ensures ∙ ap refusedBuild e ∙ sym (build-refused (c .before .before .before .args .f) (λ z. c .before .if1 .taken (e ∙ z)))
 
 -- the checks 1 to 9 have passed
-passed : (c : tie.Else1) → AllPass (ranges (c .before .before .args .f))
-passed c = ranges-pass (c .before .before .args .f) (sym (c .before .check-ranges .ensures) ∙ c .if1 .left)
+passed : (c : tie.Else1) → AllPass (rangeChecks (c .before .before .args .f))
+passed c = ranges-pass (c .before .before .args .f) (sym (c .before .validate-field-ranges .ensures) ∙ c .if1 .left)
 
 bounds : (c : tie.Else1) → InBounds (c .before .before .args .f)
 bounds c = in-bounds (c .before .before .args .f) (passed c)
 
 -- the offset is less than a day
-within : (c : tie.Else1) → WithinDay (offsetIs (c .before .before .args .f .offset))
+within : (c : tie.Else1) → WithinDay (offsetGiven (c .before .before .args .f .offset))
 within c = bounds c .offset
 
 -- the minutes of an offset that moves UTC fields
-minutes : (c : tie.After-minutes-of) → c .minutes-of .result ≡ minutesIs (minutesOf (offsetIs (c .before .before .before .before .before .before .args .f .offset)))
-minutes c = c .minutes-of .ensures ∙ ap (λ (o : Offset). minutesIs (minutesOf o)) (c .before .before .before .offset-is .ensures)
+minutes : (c : tie.After-minutes-of) → c .minutes-of .result ≡ offsetMinutes (minutesOf (offsetGiven (c .before .before .before .before .before .before .args .f .offset)))
+minutes c = c .minutes-of .ensures ∙ ap (λ (o : Offset). offsetMinutes (minutesOf o)) (c .before .before .before .offset-given .ensures)
 
-build-utc-requires : tie.Need-build-utc-requires
-build-utc-requires c κs =
+from-utc-fields-requires : tie.Need-from-utc-fields-requires
+from-utc-fields-requires c κs =
     let a = c .before .before in
     let e1 = a .before .before in
     (bounds e1, within-utc (e1 .before .before .args .f .offset) (sym (a .is-utc .ensures) ∙ c .before .if2 .taken) (within e1) (c .minutes-of .result) (minutes c))
@@ -42,22 +42,22 @@ returns-2 c =
     let a = c .before .before .before in
     let e1 = a .before .before in
     let f = e1 .before .before .args .f in
-    c .build-utc .ensures
+    c .from-utc-fields .ensures
     ∙ sym (build-routed f (passed e1) ∙ routed-utc f (f .offset) (sym (a .is-utc .ensures) ∙ c .before .before .if2 .taken) (c .before .minutes-of .result) (minutes (c .before)))
 
-build-local-requires : tie.Need-build-local-requires
-build-local-requires c κs =
+from-fields-requires : tie.Need-from-fields-requires
+from-fields-requires c κs =
     let a = c .before .before in
     let e1 = a .before in
-    (bounds e1, subst WithinDay (sym (a .offset-is .ensures)) (within e1))
+    (bounds e1, subst WithinDay (sym (a .offset-given .ensures)) (within e1))
 
 returns-3 : tie.Need-returns-3
 returns-3 c =
     let a = c .before .before in
     let e1 = a .before .before in
     let f = e1 .before .before .args .f in
-    c .build-local .ensures
-    ∙ ap (λ (o : Offset). answer (firstOf (localChecks f)) (pairAt f (givenTime f) o)) (a .before .offset-is .ensures)
+    c .from-fields .ensures
+    ∙ ap (λ (o : Offset). buildAnswer (firstOf (localChecks f)) (pairAt f (givenTime f) o)) (a .before .offset-given .ensures)
     ∙ sym (build-routed f (passed e1) ∙ routed-local f (f .offset) (sym (a .is-utc .ensures) ∙ c .before .if2 .left))
 
 pub build-spec : {M : Type 1} → statement M
@@ -70,7 +70,7 @@ build-spec =
     (λ c κs. search needs)
     (λ c κs. search needs)
     (λ c κs. search needs)
-    build-utc-requires
+    from-utc-fields-requires
     returns-2
-    build-local-requires
+    from-fields-requires
     returns-3)

@@ -2,7 +2,7 @@
 use mathlib.Core.Path.{ap}
 use mir.Facts.{toZ-ofZ}
 use borrow.Author.Needs.{needs}
-use Rattle.ion.specs.Stages.{withOffset}
+use Rattle.ion.specs.Calls.Stages.{withOffset}
 use Rattle.ion.specs.declared.BuilderOffset.the-variants.{FromUtcFields}
 use Rattle.ion.specs.declared.offset.OffsetMinutes.{OffsetMinutes}
 use Rattle.builder.proofs.offset.from_utc.Statement.{statement}

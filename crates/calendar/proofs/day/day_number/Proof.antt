@@ -1,7 +1,7 @@
 -- `calendar::day_number` meets its contract. Assumes nothing.
 use native.Mathlib.Omega.{arith}
 use borrow.Author.Needs.{needs}
-use Rattle.ion.specs.Calendar.{isLeap}
+use Rattle.ion.specs.Calendar.Dates.{isLeap}
 use Rattle.calendar.proofs.Years.{year-start-below, leap-day-le}
 use Rattle.calendar.proofs.Dates.{month-of, in-year}
 use Rattle.calendar.proofs.day.day_number.Statement.{statement}

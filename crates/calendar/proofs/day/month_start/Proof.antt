@@ -5,7 +5,7 @@ use Prim.Native.Nat.{_+_}
 use native.Mathlib.Omega.{arith}
 use lib.ListN.{getD}
 use borrow.Author.Needs.{needs}
-use Rattle.ion.specs.Calendar.{leapDay, isLeap, monthStart}
+use Rattle.ion.specs.Calendar.Dates.{leapDay, isLeap, monthStart}
 use Rattle.calendar.proofs.Years.{leap-day-le}
 use Rattle.calendar.proofs.Months.{starts, start-is, start-early, start-late, start-below}
 use Rattle.calendar.proofs.day.month_start.Statement.{statement}

@@ -3,7 +3,7 @@ use Prim.Native.Nat.{_<_, _≤_}
 use native.Mathlib.Omega.{arith}
 use borrow.Author.Needs.{needs}
 use borrow.Author.Tests.{lt-ltb, le-ltb}
-use Rattle.ion.specs.Calendar.{monthLength}
+use Rattle.ion.specs.Calendar.Dates.{monthLength}
 use Rattle.calendar.proofs.day.next_day.Statement.{statement}
 use Rattle.calendar.proofs.day.next_day.Tie as tie
 

@@ -3,7 +3,7 @@ use mathlib.Core.Path.{_≡_}
 use Prim.Native.Nat.{ℕ, _+_, _-_, _*_, _/_}
 use native.Mathlib.Omega.{arith}
 use borrow.Author.Needs.{needs}
-use Rattle.ion.specs.Calendar.{yearStart}
+use Rattle.ion.specs.Calendar.Dates.{yearStart}
 use Rattle.calendar.proofs.Years.{leapsBefore, year-start}
 use Rattle.calendar.proofs.day.year_start.Statement.{statement}
 use Rattle.calendar.proofs.day.year_start.Tie as tie

@@ -4,7 +4,7 @@ use Prim.Native.Nat.{_%_}
 use native.Mathlib.Omega.{arith}
 use mathlib.Core.Bool.{and-false}
 use borrow.Author.Tests.{eq-eqb, ne-eqb}
-use Rattle.ion.specs.Calendar.{isLeap}
+use Rattle.ion.specs.Calendar.Dates.{isLeap}
 use Rattle.calendar.proofs.month.is_leap.Statement.{statement}
 use Rattle.calendar.proofs.month.is_leap.Tie as tie
 

@@ -4,7 +4,7 @@ use mathlib.Core.Bool.{Bool, false}
 use Prim.Native.Nat.{_+_}
 use native.Mathlib.Omega.{arith}
 use borrow.Author.Needs.{needs}
-use Rattle.ion.specs.Calendar.{isLeap, leapDay, monthLength}
+use Rattle.ion.specs.Calendar.Dates.{isLeap, leapDay, monthLength}
 use Rattle.calendar.proofs.Months.{fixed-length, month-most, february, no-month}
 use Rattle.calendar.proofs.month.month_length.Statement.{statement}
 use Rattle.calendar.proofs.month.month_length.Tie as tie

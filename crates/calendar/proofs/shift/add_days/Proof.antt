@@ -8,9 +8,9 @@ use lib.Signed.{ltZ}
 use mir.Facts.{toZ-ofZ}
 use borrow.Author.Needs.{needs}
 use borrow.Author.Tests.{ltb-true, ltb-false}
-use Rattle.ion.specs.Calendar.{nextDay, prevDay}
+use Rattle.ion.specs.Calendar.Dates.{nextDay, prevDay}
 use Rattle.ion.specs.declared.Date.{Date}
-use Rattle.ion.specs.Shift.{addDays}
+use Rattle.ion.specs.Calendar.Shift.{addDays}
 use Rattle.calendar.proofs.shift.add_days.Statement.{statement}
 use Rattle.calendar.proofs.shift.add_days.Tie as tie
 

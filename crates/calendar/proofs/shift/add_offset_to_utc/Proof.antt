@@ -14,7 +14,7 @@ use borrow.Author.Needs.{needs}
 use borrow.Author.Tests.{leb-false}
 use Rattle.integers.specs.Floor.{floorDiv, floorMod}
 use Rattle.integers.proofs.Parts.{apart, natAbs-parts, add-parts, floor-div-parts}
-use Rattle.ion.specs.Shift.{dateOf, atMinute, addDays}
+use Rattle.ion.specs.Calendar.Shift.{dateOf, atMinute, addDays}
 use Rattle.ion.specs.declared.DateTime.{DateTime}
 use Rattle.ion.proofs.Offsets.{offset-fits, sum-fits}
 use Rattle.calendar.proofs.shift.add_offset_to_utc.Statement.{statement}

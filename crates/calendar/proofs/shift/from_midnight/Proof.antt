@@ -5,7 +5,7 @@ use mir.Val.{toZ, ofZ}
 use mir.Facts.{toZ-ofZ}
 use borrow.Author.Needs.{needs, sfits-of}
 use Rattle.integers.specs.Floor.{floorDiv}
-use Rattle.ion.specs.Shift.{atMinute}
+use Rattle.ion.specs.Calendar.Shift.{atMinute}
 use Rattle.calendar.proofs.shift.from_midnight.Statement.{statement}
 use Rattle.calendar.proofs.shift.from_midnight.Tie as tie
 

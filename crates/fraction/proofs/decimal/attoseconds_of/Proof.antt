@@ -1,7 +1,7 @@
 -- `fraction::decimal::attoseconds_of` meets its contract. Assumes nothing.
 use mathlib.Core.Path.{ap, _∙_}
 use borrow.Author.Needs.{needs}
-use Rattle.ion.specs.Fraction.{capped}
+use Rattle.ion.specs.Pair.Fraction.{capped}
 use Rattle.fraction.proofs.Quotients.{up-to, past}
 use Rattle.fraction.proofs.decimal.attoseconds_of.Statement.{statement}
 use Rattle.fraction.proofs.decimal.attoseconds_of.Tie as tie

@@ -8,8 +8,8 @@ use lib.Signed.{ltZ}
 use mir.Syntax.{w64}
 use mir.Val.{toZ, ofZ}
 use mir.Facts.{toZ-ofZ}
-use Rattle.integers.proofs.Parts.{Gives, may-cast, to-unsigned}
-use Rattle.ion.specs.Fraction.{digitsOf}
+use Rattle.integers.proofs.Parts.{IsNatural, may-cast, to-unsigned}
+use Rattle.ion.specs.Pair.Fraction.{digitsOf}
 use Rattle.fraction.proofs.Exponents.{less-one, some-digit, no-digit, plus-fits, minus-fits}
 use Rattle.fraction.proofs.decimal.digits_of.Statement.{statement}
 use Rattle.fraction.proofs.decimal.digits_of.Tie as tie
@@ -25,7 +25,7 @@ below c =
 abbrev bits-of : ℤ → ℤ
 bits-of z = toZ w64 (ofZ w64 (pos 0 -ℤ toZ w64 (ofZ w64 (toZ w64 (ofZ w64 z) +ℤ pos 1))))
 
-less : (c : tie.Then1) → Gives (bits-of (c .before .args .exponent)) (digitsOf (c .before .args .exponent) - 1)
+less : (c : tie.Then1) → IsNatural (bits-of (c .before .args .exponent)) (digitsOf (c .before .args .exponent) - 1)
 less c =
     let z = c .before .args .exponent in
     let f = c .before .fits .exponent in

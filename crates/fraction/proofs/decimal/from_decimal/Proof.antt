@@ -5,7 +5,7 @@ use mir.Syntax.{w64}
 use mir.Val.{SFits}
 use mir.Facts.{toZ-ofZ}
 use borrow.Author.Needs.{needs}
-use Rattle.ion.specs.Fraction.{capped, digitsOf, belowZero}
+use Rattle.ion.specs.Pair.Fraction.{capped, digitsOf, belowZero}
 use Rattle.fraction.proofs.decimal.from_decimal.Statement.{statement}
 use Rattle.fraction.proofs.decimal.from_decimal.Tie as tie
 

@@ -1,6 +1,6 @@
 -- `fraction::units::cap` meets its contract. Assumes nothing.
 use mathlib.Core.Path.{sym}
-use Rattle.fraction.proofs.Caps.{cap-high, cap-low}
+use Rattle.fraction.proofs.Capped.{cap-high, cap-low}
 use Rattle.fraction.proofs.units.cap.Statement.{statement}
 use Rattle.fraction.proofs.units.cap.Tie as tie
 

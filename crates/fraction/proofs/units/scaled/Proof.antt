@@ -3,8 +3,8 @@ use mathlib.Core.Path.{sym, subst}
 use Prim.Native.Nat.{ℕ, _*_, _^_, _≤_, _<_}
 use native.Mathlib.Omega.{arith}
 use borrow.Author.Needs.{needs}
-use Rattle.ion.specs.Fraction.{scale}
-use Rattle.fraction.proofs.Caps.{cap-high, cap-low, scaled-high, scaled-low}
+use Rattle.ion.specs.Pair.Fraction.{scale}
+use Rattle.fraction.proofs.Capped.{cap-high, cap-low, scaled-high, scaled-low}
 use Rattle.fraction.proofs.units.scaled.Statement.{statement}
 use Rattle.fraction.proofs.units.scaled.Tie as tie
 

@@ -8,7 +8,7 @@ use mir.Val.{SFits}
 use mir.Facts.{toZ-ofZ}
 use borrow.Author.Needs.{needs}
 use Rattle.integers.proofs.Parts.{to-unsigned, may-cast}
-use Rattle.ion.specs.Offset.{WithinDay, rawOf, rawIs}
+use Rattle.ion.specs.Pair.Offset.{WithinDay, rawOf, rawOffset}
 use Rattle.ion.proofs.Offsets.{offset-fits, sum-fits, raised, raw-below}
 use Rattle.ion.proofs.offset.raw_of.Statement.{statement}
 use Rattle.ion.proofs.offset.raw_of.Tie as tie
@@ -41,7 +41,7 @@ returns-2 : tie.Need-returns-2
 returns-2 c =
     let f = offset-fits (minutes c) (small c) in
     let g = sum c in
-    simp toZ-ofZ (ap rawIs (to-unsigned (raised (minutes c) (small c))) ∙ ap rawOf (sym (c .before .before .before .o .given .1)))
+    simp toZ-ofZ (ap rawOffset (to-unsigned (raised (minutes c) (small c))) ∙ ap rawOf (sym (c .before .before .before .o .given .1)))
 
 pub raw-of-spec : {M : Type 1} → statement M
 raw-of-spec = tie.close (tie.spec (λ c. search needs) (λ c. search needs) add-t4 cast-t5 returns returns-2)

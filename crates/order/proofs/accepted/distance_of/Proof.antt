@@ -2,7 +2,7 @@
 use mathlib.Core.Path.{ap, _∙_}
 use Prim.Native.Nat.{_+_, _*_, _^_}
 use borrow.Author.Needs.{needs}
-use Rattle.ion.specs.Count.{countOf}
+use Rattle.ion.specs.Pair.Count.{countOf}
 use Rattle.order.specs.declared.seconds.Seconds.{Seconds}
 use Rattle.order.specs.Answers.{distanceOfCounts}
 use Rattle.order.proofs.Clocks.{valid-local, distance-is}
@@ -21,7 +21,7 @@ returns c =
     let p = x .pre .0 .fields in
     let q = x .pre .1 .fields in
     c .distance-of-counts .ensures
-    ∙ ap (λ (r : Seconds). distanceOfCounts (r .first * 10 ^ 18 + a) (r .second * 10 ^ 18 + b)) (c .before .by-same-clock .ensures)
+    ∙ ap (λ (r : Seconds). distanceOfCounts (r .first * 10 ^ 18 + a) (r .second * 10 ^ 18 + b)) (c .before .seconds-of-both .ensures)
     ∙ distance-is _ _ (valid-local p) (valid-local q) a b (p .attoseconds) (q .attoseconds)
 
 pub distance-of-spec : {M : Type 1} → statement M

@@ -2,9 +2,9 @@
 use mathlib.Core.Path.{_≡_, sym, ap, _∙_}
 use mir.Facts.{toZ-ofZ}
 use borrow.Author.Needs.{needs, sfits-of}
-use Rattle.ion.specs.Pair.{wordIn}
-use Rattle.ion.specs.Word.{fieldsOf}
-use Rattle.ion.specs.Count.{countOf}
+use Rattle.ion.specs.Pair.Pair.{wordIn}
+use Rattle.ion.specs.Pair.Word.{fieldsOf}
+use Rattle.ion.specs.Pair.Count.{countOf}
 use Rattle.ion.specs.declared.offset.RawOffset.{RawOffset}
 use Rattle.order.specs.declared.seconds.Seconds.{Seconds}
 use Rattle.order.specs.Counts.{orderOfPairs}
@@ -38,7 +38,7 @@ returns-2 c =
     let p = x .pre .0 .fields in
     let q = x .pre .1 .fields in
     toZ-ofZ (sfits-of (c .order-of-pairs2 .ok)) ∙ c .order-of-pairs2 .ensures
-    ∙ ap (λ (r : Seconds). orderOfPairs (r .first) a (r .second) b) (c .before .by-same-clock .ensures)
+    ∙ ap (λ (r : Seconds). orderOfPairs (r .first) a (r .second) b) (c .before .seconds-of-both .ensures)
     ∙ order-is _ _ (valid-local p) (valid-local q) a b (p .attoseconds) (q .attoseconds)
 
 pub order-of-spec : {M : Type 1} → statement M

@@ -7,7 +7,7 @@ use mir.Syntax.{w32}
 use mir.Val.{toZ, ofZ}
 use mir.Facts.{toZ-ofZ}
 use borrow.Author.Needs.{needs, sfits-of}
-use Rattle.ion.specs.Order.{orderOf, sizeOfDifference}
+use Rattle.ion.specs.Calls.Order.{orderOf, sizeOfDifference}
 use Rattle.order.specs.Answers.{distant}
 use Rattle.order.proofs.Orders.{order-negative, order-not-negative}
 use Rattle.order.proofs.Differences.{pairs-count, size-sym}

@@ -8,9 +8,9 @@ use mir.Val.{SFits, toZ, ofZ}
 use mir.Facts.{toZ-ofZ, toZ-pos, sfits-widen}
 use borrow.Author.Needs.{needs}
 use Rattle.integers.specs.Floor.{_plus_}
-use Rattle.integers.proofs.Parts.{Gives, to-unsigned, may-cast, gives-fits}
-use Rattle.ion.specs.Accepted.{timeIn}
-use Rattle.ion.specs.Shift.{minuteNumber}
+use Rattle.integers.proofs.Parts.{IsNatural, to-unsigned, may-cast, natural-fits}
+use Rattle.ion.specs.Calls.Accepted.{timeIn}
+use Rattle.ion.specs.Calendar.Shift.{minuteNumber}
 use Rattle.order.proofs.Clocks.{moved-gives, moved-below}
 use Rattle.order.proofs.seconds.seconds_at.Statement.{statement}
 use Rattle.order.proofs.seconds.seconds_at.Tie as tie
@@ -22,14 +22,14 @@ module _ (c : tie.After-minute-number) where
   abbrev ahead : ℤ
   ahead = c .before .args .ahead
 
-  gives : Gives (pos minutes +ℤ ahead) (minutes plus ahead)
+  gives : IsNatural (pos minutes +ℤ ahead) (minutes plus ahead)
   gives = moved-gives (c .before .args .f) (c .before .pre .0) ahead (c .before .pre .1)
 
   below : minutes plus ahead < 2 ^ 33
   below = moved-below (c .before .args .f) (c .before .pre .0) ahead (c .before .pre .1)
 
   fits : SFits w64 (pos minutes +ℤ ahead)
-  fits = gives-fits w64 gives (omega (arith, below))
+  fits = natural-fits w64 gives (omega (arith, below))
 
   wide : SFits w64 ahead
   wide = sfits-widen tt (c .before .fits .ahead)

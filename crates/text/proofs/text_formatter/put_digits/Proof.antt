@@ -9,7 +9,7 @@ use lib.Seq.{take-set-le}
 use Rattle.places.specs.Places.{placesOn}
 use Rattle.places.proofs.Laws.{place-stored}
 use Rattle.output.proofs.Stores.{places-stored}
-use Rattle.ion.specs.Padded.{digit}
+use Rattle.ion.specs.Numbers.Padded.{digit}
 use Rattle.text.proofs.text_formatter.put_digits.Statement.{statement}
 use Rattle.text.proofs.text_formatter.put_digits.Tie as tie
 

@@ -2,7 +2,7 @@
 use borrow.Author.Needs.{needs}
 use mathlib.Core.Path.{ap, _∙_}
 use native.Mathlib.Omega.{arith}
-use Rattle.ion.specs.Output.{over}
+use Rattle.ion.specs.Calls.Output.{over}
 use Rattle.text.proofs.Digits.{length-padded, digits-padded}
 use Rattle.text.proofs.text_formatter.put_padded.Statement.{statement}
 use Rattle.text.proofs.text_formatter.put_padded.Tie as tie

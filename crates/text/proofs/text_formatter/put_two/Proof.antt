@@ -8,8 +8,8 @@ use native.Mathlib.Numerals.{add-one}
 use native.Mathlib.Omega.{arith}
 use lib.ListN.{length, set, length-set, drop}
 use lib.Seq.{take-set-le, drop-set-lt, drop-cons, getD-set-same}
-use Rattle.ion.specs.Output.{over}
-use Rattle.ion.specs.Padded.{padded}
+use Rattle.ion.specs.Calls.Output.{over}
+use Rattle.ion.specs.Numbers.Padded.{padded}
 use Rattle.places.specs.Places.{placesOn, places}
 use Rattle.output.proofs.Stores.{over-is}
 use Rattle.text.proofs.Digits.{padded-digits}

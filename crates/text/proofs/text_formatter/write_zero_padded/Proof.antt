@@ -3,18 +3,18 @@ use borrow.Author.Needs.{needs}
 use mathlib.Core.Path.{_≡_, sym, ap, _∙_}
 use native.Mathlib.Omega.{arith}
 use lib.ListN.{length}
-use Rattle.ion.specs.Output.{over, wrote, roomFor}
-use Rattle.ion.specs.Padded.{padded}
+use Rattle.ion.specs.Calls.Output.{over, wrote, roomFor}
+use Rattle.ion.specs.Numbers.Padded.{padded}
 use Rattle.output.proofs.Stores.{has-room, refused-writing, written}
 use Rattle.text.proofs.Digits.{length-padded, digits-padded}
 use Rattle.text.proofs.text_formatter.write_zero_padded.Statement.{statement}
 use Rattle.text.proofs.text_formatter.write_zero_padded.Tie as tie
 
-answered : (c : tie.After-room)
-    → let a = c .before .before .before .args in c .room .result ≡ wrote (a .buf .now) (a .at) (padded (a .width) (a .value))
+answered : (c : tie.After-room-for)
+    → let a = c .before .before .before .args in c .room-for .result ≡ wrote (a .buf .now) (a .at) (padded (a .width) (a .value))
 answered c =
     let a = c .before .before .before .args in
-    c .room .ensures ∙ ap (roomFor (length (a .buf .now)) (a .at)) (c .before .padded-count .ensures ∙ sym (length-padded (a .width) (a .value)))
+    c .room-for .ensures ∙ ap (roomFor (length (a .buf .now)) (a .at)) (c .before .padded-count .ensures ∙ sym (length-padded (a .width) (a .value)))
 
 returns : tie.Need-returns
 returns c =

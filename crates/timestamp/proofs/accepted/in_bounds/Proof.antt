@@ -4,10 +4,10 @@ use mathlib.Core.Bool.{Bool, _&&_}
 use Prim.Native.Nat.{_*_, _^_, _<_}
 use lib.Dec.{leb, ltb}
 use borrow.Author.Needs.{needs}
-use Rattle.ion.specs.Word.{fieldsOf}
+use Rattle.ion.specs.Pair.Word.{fieldsOf}
 use Rattle.timestamp.proofs.Decides.{decides-same}
-use Rattle.timestamp.proofs.Tested.{boundsTest, bounds-decides}
-use Rattle.timestamp.proofs.Masked.{wordTest, word-decides}
+use Rattle.timestamp.proofs.FieldTests.{boundsTest, bounds-decides}
+use Rattle.timestamp.proofs.WordBounds.{wordTest, word-decides}
 use Rattle.timestamp.proofs.accepted.in_bounds.Statement.{statement}
 use Rattle.timestamp.proofs.accepted.in_bounds.Tie as tie
 

@@ -3,10 +3,10 @@ use mathlib.Core.Path.{sym}
 use Prim.Native.Nat.{_^_, _<_}
 use lib.Dec.{eqb}
 use borrow.Author.Needs.{needs}
-use Rattle.ion.specs.Pair.{wordIn}
-use Rattle.ion.specs.Check.{checkOf}
+use Rattle.ion.specs.Pair.Pair.{wordIn}
+use Rattle.ion.specs.Calls.Check.{checkOf}
 use Rattle.timestamp.proofs.Decides.{decides-same}
-use Rattle.timestamp.proofs.Tested.{accepted-decides, reserved-refused}
+use Rattle.timestamp.proofs.FieldTests.{accepted-decides, reserved-refused}
 use Rattle.timestamp.proofs.accepted.is_accepted.Statement.{statement}
 use Rattle.timestamp.proofs.accepted.is_accepted.Tie as tie
 

@@ -5,7 +5,7 @@ use native.Mathlib.Nat.{zero-mod, mod-one, mod-eq-of-lt}
 use native.Mathlib.Omega.{arith}
 use borrow.Author.Needs.{needs}
 use borrow.Author.Tests.{eq-eqb, ne-eqb}
-use Rattle.ion.specs.Fraction.{scale}
+use Rattle.ion.specs.Pair.Fraction.{scale}
 use Rattle.fraction.proofs.Scales.{scale-pos}
 use Rattle.timestamp.proofs.accepted.is_multiple.Statement.{statement}
 use Rattle.timestamp.proofs.accepted.is_multiple.Tie as tie

@@ -5,13 +5,13 @@ use Prim.Native.Nat.{ℕ, _%_, _^_}
 use lib.Dec.{eqb, ltb}
 use borrow.Author.Needs.{needs}
 use borrow.Author.Tests.{le-ltb, lt-ltb, not-true, not-false}
-use Rattle.ion.specs.Calendar.{isDate}
-use Rattle.ion.specs.Word.{fieldsOf}
-use Rattle.ion.specs.Fraction.{scale}
-use Rattle.ion.specs.Accepted.{Valid, dateIn}
+use Rattle.ion.specs.Calendar.Dates.{isDate}
+use Rattle.ion.specs.Pair.Word.{fieldsOf}
+use Rattle.ion.specs.Pair.Fraction.{scale}
+use Rattle.ion.specs.Calls.Accepted.{Valid, dateIn}
 use Rattle.ion.specs.declared.Fields.{Fields}
 use Rattle.timestamp.proofs.Decides.{Decides}
-use Rattle.timestamp.proofs.Tested.{boundsTest, firstTest, validTest, valid-decides}
+use Rattle.timestamp.proofs.FieldTests.{boundsTest, firstTest, validTest, valid-decides}
 use Rattle.timestamp.proofs.accepted.is_valid.Statement.{statement}
 use Rattle.timestamp.proofs.accepted.is_valid.Tie as tie
 

@@ -2,11 +2,11 @@
 use mathlib.Core.Path.{sym, ap, subst, _∙_}
 use Prim.Native.Nat.{_≤_, _<_}
 use Rattle.ion.specs.declared.Fields.{Fields}
-use Rattle.ion.specs.Build.{buildOf}
-use Rattle.ion.specs.Check.{rebuilt, sameAs}
-use Rattle.ion.specs.Accepted.{Staged}
+use Rattle.ion.specs.Calls.Build.{buildOf}
+use Rattle.ion.specs.Calls.Check.{rebuilt, sameAs}
+use Rattle.ion.specs.Calls.Accepted.{Staged}
 use Rattle.timestamp.proofs.Rebuilt.{check-digits, check-built}
-use Rattle.timestamp.proofs.Given.{rebuilt-staged}
+use Rattle.timestamp.proofs.CheckedFields.{rebuilt-staged}
 use borrow.Author.Needs.{needs}
 use Rattle.timestamp.proofs.checking.check_by_building.Statement.{statement}
 use Rattle.timestamp.proofs.checking.check_by_building.Tie as tie

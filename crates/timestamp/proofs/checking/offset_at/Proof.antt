@@ -1,7 +1,7 @@
 -- `timestamp::checking::offset_at` meets its contract. Assumes nothing.
 use mathlib.Core.Path.{sym, ap, _∙_}
 use borrow.Author.Tests.{le-leb, lt-leb}
-use Rattle.ion.specs.Check.{fromLocal}
+use Rattle.ion.specs.Calls.Check.{fromLocal}
 use borrow.Author.Needs.{needs}
 use Rattle.timestamp.proofs.checking.offset_at.Statement.{statement}
 use Rattle.timestamp.proofs.checking.offset_at.Tie as tie

@@ -4,7 +4,7 @@ use borrow.Author.Tests.{not-true, not-false}
 use mathlib.Core.Path.{_≡_, sym, ap, _∙_}
 use mathlib.Core.Bool.{true, false}
 use lib.ListN.{take, drop}
-use Rattle.ion.specs.Decode.{found, decodeFields, afterFields, afterOffset}
+use Rattle.ion.specs.Value.Decode.{found, decodeFields, afterFields, afterOffset}
 use Rattle.timestamp_binary.specs.Parsed.{fractionIn}
 use Rattle.timestamp_binary.proofs.FieldSteps.{after-fields, body-values}
 use Rattle.timestamp_binary.proofs.decoder.after_offset.Statement.{statement}

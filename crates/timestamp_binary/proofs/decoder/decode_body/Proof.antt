@@ -2,7 +2,7 @@
 use borrow.Author.Needs.{needs}
 use mathlib.Core.Path.{_≡_, sym, ap, _∙_}
 use lib.ListN.{drop}
-use Rattle.ion.specs.Decode.{decodeFields, offsetFrom, decodeOffset, afterOffset, fromOffset, decodeBody}
+use Rattle.ion.specs.Value.Decode.{decodeFields, offsetFrom, decodeOffset, afterOffset, fromOffset, decodeBody}
 use Rattle.ion.specs.declared.VarIntRead.{VarIntRead}
 use Rattle.ion.specs.declared.offset.Offset.{Offset}
 use Rattle.binary.proofs.VarInts.{read-signed-is}

@@ -1,7 +1,7 @@
 -- `decoder::precision_with` meets its contract. Assumes nothing.
 use borrow.Author.Needs.{needs}
 use borrow.Author.Tests.{le-leb, lt-leb}
-use Rattle.ion.specs.Decode.{precisionWith}
+use Rattle.ion.specs.Value.Decode.{precisionWith}
 use Rattle.timestamp_binary.proofs.decoder.precision_with.Statement.{statement}
 use Rattle.timestamp_binary.proofs.decoder.precision_with.Tie as tie
 

@@ -6,8 +6,8 @@ use Prim.Native.Nat.{ℕ, _-_}
 use native.Mathlib.Omega.{arith}
 use lib.ListN.{length, take, drop, length-drop}
 use lib.Seq.{take-all}
-use Rattle.ion.specs.Int.{readInt}
-use Rattle.ion.specs.Decode.{coefficientFrom}
+use Rattle.ion.specs.Numbers.Int.{readInt}
+use Rattle.ion.specs.Value.Decode.{coefficientFrom}
 use Rattle.timestamp_binary.proofs.decoder.read_coefficient.Statement.{statement}
 use Rattle.timestamp_binary.proofs.decoder.read_coefficient.Tie as tie
 

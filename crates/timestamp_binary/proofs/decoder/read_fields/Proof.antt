@@ -8,7 +8,7 @@ use native.Mathlib.Omega.{arith}
 use lib.ListN.{length, take, drop, length-set, length-drop, drop-of-length-le}
 use lib.Seq.{drop-length}
 use Rattle.places.proofs.Below.{below-drop}
-use Rattle.ion.specs.Decode.{Decoded, nothing, fieldFrom, decodeFields}
+use Rattle.ion.specs.Value.Decode.{Decoded, nothing, fieldFrom, decodeFields}
 use Rattle.ion.specs.declared.VarUIntRead.{VarUIntRead}
 use Rattle.binary.proofs.VarUInts.{read-is, read-within}
 use Rattle.timestamp_binary.proofs.FieldSteps.{joined, joined-none, Rest, rest-more, field-more, field-none, field-end, field-last, fields-done, fields-none}

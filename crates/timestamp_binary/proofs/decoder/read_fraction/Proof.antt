@@ -8,9 +8,9 @@ use native.Mathlib.Omega.{arith}
 use lib.ListN.{length, drop, length-drop, drop-of-length-le}
 use lib.Seq.{drop-drop}
 use Rattle.places.proofs.Below.{below-drop}
-use Rattle.ion.specs.VarInt.{readVarInt}
-use Rattle.ion.specs.Int.{readInt}
-use Rattle.ion.specs.Decode.{nothing, coefficientFrom, fractionFrom, decodeFraction}
+use Rattle.ion.specs.Numbers.VarInt.{readVarInt}
+use Rattle.ion.specs.Numbers.Int.{readInt}
+use Rattle.ion.specs.Value.Decode.{nothing, coefficientFrom, fractionFrom, decodeFraction}
 use Rattle.binary.proofs.VarInts.{read-signed-is, read-signed-within}
 use Rattle.timestamp_binary.proofs.decoder.read_fraction.Statement.{statement}
 use Rattle.timestamp_binary.proofs.decoder.read_fraction.Tie as tie

@@ -7,9 +7,9 @@ use native.Mathlib.Omega.{arith}
 use lib.Dec.{lit≤}
 use lib.ListN.{length, take, length-set}
 use lib.Seq.{length-take-le}
-use Rattle.ion.specs.Check.{checkOf}
-use Rattle.ion.specs.Accepted.{Accepted}
-use Rattle.ion.specs.Value.{bodyOf}
+use Rattle.ion.specs.Calls.Check.{checkOf}
+use Rattle.ion.specs.Calls.Accepted.{Accepted}
+use Rattle.ion.specs.Value.Encode.{bodyOf}
 use Rattle.output.proofs.Stores.{passed-writing, stopped-writing}
 use Rattle.output.proofs.Runs.{run-front}
 use Rattle.timestamp.proofs.Accepts.{check-gives}
@@ -19,11 +19,11 @@ use Rattle.timestamp_binary.proofs.encoder.encode_timestamp_value.State
 use Rattle.timestamp_binary.proofs.encoder.encode_timestamp_value.Tie as tie
 
 returns : tie.Need-returns
-returns c = rw (← c .before .number-of .ensures) (stopped-writing _ _ _ _ (c .if1 .taken))
+returns c = rw (← c .before .check-number .ensures) (stopped-writing _ _ _ _ (c .if1 .taken))
 
 -- the check's number is 0
 passed : (c : tie.Else1) → checkOf (c .before .before .before .args .s) .number ≡ 0
-passed c = omega (arith, c .before .number-of .ensures, c .if1 .left)
+passed c = omega (arith, c .before .check-number .ensures, c .if1 .left)
 
 accepted : (c : tie.Else1) → Accepted (c .before .before .before .args .s)
 accepted c = check-gives (c .before .before .before .args .s) (passed c)

@@ -1,7 +1,7 @@
 -- `encoder::field_count` meets its contract. Assumes nothing.
 use borrow.Author.Needs.{needs}
 use borrow.Author.Tests.{le-leb, lt-leb}
-use Rattle.ion.specs.Value.{fieldCount}
+use Rattle.ion.specs.Value.Encode.{fieldCount}
 use Rattle.timestamp_binary.proofs.encoder.field_count.Statement.{statement}
 use Rattle.timestamp_binary.proofs.encoder.field_count.Tie as tie
 

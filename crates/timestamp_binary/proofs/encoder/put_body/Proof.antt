@@ -7,9 +7,9 @@ use Prim.Native.Nat.{ℕ, _+_, _/_, _≤_}
 use native.Mathlib.Omega.{arith}
 use lib.Dec.{leb}
 use lib.ListN.{length, take, length-append}
-use Rattle.ion.specs.Fraction.{scale}
-use Rattle.ion.specs.Accepted.{Valid}
-use Rattle.ion.specs.Value.{offsetBytes, varuints, fieldList, fieldCount, fractionBytes, bodyOf}
+use Rattle.ion.specs.Pair.Fraction.{scale}
+use Rattle.ion.specs.Calls.Accepted.{Valid}
+use Rattle.ion.specs.Value.Encode.{offsetBytes, varuints, fieldList, fieldCount, fractionBytes, bodyOf}
 use Rattle.ion.specs.declared.Fields.{Fields}
 use Rattle.ion.specs.declared.offset.Offset.{Offset}
 use Rattle.output.proofs.Runs.{run-two, run-is}

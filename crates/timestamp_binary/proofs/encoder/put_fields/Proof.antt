@@ -5,9 +5,9 @@ use mathlib.Core.Path.{_≡_, refl}
 use Prim.Native.Nat.{_+_, _-_, _≤_, _<_}
 use native.Mathlib.Omega.{arith}
 use lib.ListN.{length, take, getD}
-use Rattle.ion.specs.Output.{Run}
-use Rattle.ion.specs.VarUInt.{groupCount}
-use Rattle.ion.specs.Value.{varuints}
+use Rattle.ion.specs.Calls.Output.{Run}
+use Rattle.ion.specs.Numbers.VarUInt.{groupCount}
+use Rattle.ion.specs.Value.Encode.{varuints}
 use Rattle.binary.proofs.VarUInts.{length-varuint}
 use Rattle.output.proofs.Runs.{run-none, run-two}
 use Rattle.timestamp_binary.proofs.FieldRuns.{varuints-none, varuints-more, varuints-room}

@@ -8,10 +8,10 @@ use lib.ListN.{length}
 use mir.Syntax.{w64}
 use mir.Facts.{toZ-ofZ, toZ-pos}
 use Rattle.integers.proofs.Parts.{minus-fits}
-use Rattle.ion.specs.Fraction.{scale}
-use Rattle.ion.specs.Output.{Run}
-use Rattle.ion.specs.Decimal.{decimalBytes}
-use Rattle.ion.specs.Value.{fractionBytes}
+use Rattle.ion.specs.Pair.Fraction.{scale}
+use Rattle.ion.specs.Calls.Output.{Run}
+use Rattle.ion.specs.Numbers.Decimal.{decimalBytes}
+use Rattle.ion.specs.Value.Encode.{fractionBytes}
 use Rattle.fraction.proofs.Scales.{scale-pos}
 use Rattle.output.proofs.Runs.{run-none, run-is}
 use Rattle.timestamp_binary.proofs.DecodeBack.{no-fraction}

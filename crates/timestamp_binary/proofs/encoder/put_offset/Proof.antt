@@ -8,9 +8,9 @@ use lib.ListN.{length}
 use mir.Syntax.{w32, w64}
 use mir.Val.{SFits}
 use mir.Facts.{toZ-ofZ, sfits-widen}
-use Rattle.ion.specs.Output.{Run}
-use Rattle.ion.specs.VarInt.{signedCount, isNegative, signed, varint}
-use Rattle.ion.specs.Value.{offsetBytes}
+use Rattle.ion.specs.Calls.Output.{Run}
+use Rattle.ion.specs.Numbers.VarInt.{signedCount, isNegative, signed, varint}
+use Rattle.ion.specs.Value.Encode.{offsetBytes}
 use Rattle.ion.specs.declared.offset.OffsetMinutes.{OffsetMinutes}
 use Rattle.ion.specs.declared.offset.Offset.{Offset}
 use Rattle.ion.specs.declared.offset.Offset.the-variants.{Unknown, Known}

@@ -1,17 +1,21 @@
 -- `reader::local_fields` meets its contract. Assumes nothing.
 use borrow.Author.Needs.{needs}
 use mathlib.Core.Path.{sym, ap, subst, _∙_}
-use Rattle.ion.specs.Offset.{WithinDay}
-use Rattle.ion.specs.Accepted.{timeIn}
-use Rattle.ion.specs.Utc.{withTime}
-use Rattle.ion.specs.Decode.{localBy}
+use Rattle.ion.specs.Calendar.Shift.{shifted}
+use Rattle.ion.specs.Pair.Offset.{WithinDay}
+use Rattle.ion.specs.Calls.Accepted.{timeIn}
+use Rattle.ion.specs.Calls.Utc.{withTime}
+use Rattle.ion.specs.Value.Decode.{localBy}
 use Rattle.ion.specs.declared.offset.Offset.{Offset}
 use Rattle.timestamp_binary.proofs.reader.local_fields.Statement.{statement}
 use Rattle.timestamp_binary.proofs.reader.local_fields.Tie as tie
 
-moved-requires : tie.Need-moved-requires
-moved-requires c κs =
-    let k = c .before in
+raw-of-requires : tie.Need-raw-of-requires
+raw-of-requires c κs = let k = c .before in subst WithinDay (k .o .given .1) (k .before .before .before .pre .0 .within-day)
+
+shifted-fields-requires : tie.Need-shifted-fields-requires
+shifted-fields-requires c κs =
+    let k = c .before .before in
     let s = k .before .before .before in
     (s .pre .1 .time, s .pre .1 .year, subst WithinDay (k .o .given .1) (s .pre .0 .within-day))
 
@@ -24,9 +28,11 @@ returns c =
 
 returns-2 : tie.Need-returns-2
 returns-2 c =
-    let k = c .before .before in
-    let s = k .before .before .before in
-    c .moved .ensures ∙ sym (ap (λ (o : Offset). localBy o (s .args .x .utc)) (k .o .given .1))
+    let k = c .before .before .before in
+    let u = k .before .before .before .args .x .utc in
+    c .shifted-fields .ensures
+    ∙ ap (withTime u (shifted (timeIn u) (k .o .given .0 .0 .0))) (c .before .raw-of .ensures)
+    ∙ sym (ap (λ (o : Offset). localBy o u) (k .o .given .1))
 
 pub local-fields-spec : {M : Type 1} → statement M
-local-fields-spec = tie.close (tie.spec (λ c. search needs) (λ c. search needs) moved-requires returns returns-2)
+local-fields-spec = tie.close (tie.spec (λ c. search needs) (λ c. search needs) raw-of-requires shifted-fields-requires returns returns-2)

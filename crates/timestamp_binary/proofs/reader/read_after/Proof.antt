@@ -4,7 +4,7 @@ use mathlib.Core.Path.{_≡_, sym, ap, _∙_}
 use Prim.Native.Nat.{ℕ, _+_, _-_}
 use native.Mathlib.Omega.{arith}
 use lib.ListN.{take, drop, length-drop}
-use Rattle.ion.specs.ReadValue.{readBody}
+use Rattle.ion.specs.Value.ReadValue.{readBody}
 use Rattle.timestamp_binary.proofs.ReadSteps.{after-short, after-whole}
 use Rattle.timestamp_binary.proofs.reader.read_after.Statement.{statement}
 use Rattle.timestamp_binary.proofs.reader.read_after.Tie as tie

@@ -2,7 +2,7 @@
 use borrow.Author.Needs.{needs}
 use mathlib.Core.Path.{_≡_, sym, ap, _∙_}
 use Rattle.places.proofs.Below.{Below}
-use Rattle.ion.specs.Decode.{found, decodeBody}
+use Rattle.ion.specs.Value.Decode.{found, decodeBody}
 use Rattle.timestamp_binary.specs.Parsed.{bodyIn}
 use Rattle.timestamp_binary.proofs.DecodeIs.{body-is}
 use Rattle.timestamp_binary.proofs.PartsReadings.{parts-read, nothing-read}

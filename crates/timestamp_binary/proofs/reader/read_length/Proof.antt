@@ -5,7 +5,7 @@ use mathlib.Core.List.{[], _∷_}
 use native.Mathlib.Omega.{arith}
 use lib.ListN.{drop, getD, drop-of-length-le}
 use lib.Seq.{drop-cons}
-use Rattle.ion.specs.ReadValue.{readLength}
+use Rattle.ion.specs.Value.ReadValue.{readLength}
 use Rattle.timestamp_binary.proofs.ReadSteps.{length-none, length-low, length-high, length-is}
 use Rattle.timestamp_binary.proofs.reader.read_length.Statement.{statement}
 use Rattle.timestamp_binary.proofs.reader.read_length.Tie as tie

@@ -6,11 +6,11 @@ use mathlib.Core.Bool.{false≢true}
 use mathlib.Core.Logic.{inl, inr}
 use Prim.Native.Nat.{ℕ, _*_}
 use native.Mathlib.Omega.{arith}
-use Rattle.ion.specs.Pair.{pairIs}
-use Rattle.ion.specs.Word.{wordOf}
-use Rattle.ion.specs.Accepted.{Valid}
-use Rattle.ion.specs.Decode.{pairFrom}
-use Rattle.ion.specs.ReadValue.{acceptedReading}
+use Rattle.ion.specs.Pair.Pair.{packedPair}
+use Rattle.ion.specs.Pair.Word.{wordOf}
+use Rattle.ion.specs.Calls.Accepted.{Valid}
+use Rattle.ion.specs.Value.Decode.{pairFrom}
+use Rattle.ion.specs.Value.ReadValue.{acceptedReading}
 use Rattle.ion.specs.declared.Fields.{Fields}
 use Rattle.timestamp.proofs.Valid.{valid-in-range}
 use Rattle.timestamp_binary.specs.Acceptable.{Acceptable}
@@ -78,7 +78,7 @@ returns-4 c =
     let e = p .before in
     let l = e .before .before .before .before in
     let a = l .before .before .before .before .args in
-    inl (acceptable e, ap₂ (λ (w n : ℕ). acceptedReading (pairIs w n) (a .taken)) (p .pack .ensures ∙ ap wordOf (l .local-fields .ensures)) (ap (λ (n : ℕ). a .x .coefficient * n) (k .scale .ensures)))
+    inl (acceptable e, ap₂ (λ (w n : ℕ). acceptedReading (packedPair w n) (a .taken)) (p .pack .ensures ∙ ap wordOf (l .local-fields .ensures)) (ap (λ (n : ℕ). a .x .coefficient * n) (k .scale .ensures)))
 
 pub read-parts-spec : {M : Type 1} → statement M
 read-parts-spec =

@@ -6,12 +6,12 @@ use mathlib.Core.Bool.{Bool, true, _&&_}
 use Prim.Native.Nat.{_^_, min}
 use native.Mathlib.Omega.{arith}
 use lib.Dec.{leb, ltb}
-use Rattle.ion.specs.Calendar.{isDate}
-use Rattle.ion.specs.Accepted.{dateIn}
+use Rattle.ion.specs.Calendar.Dates.{isDate}
+use Rattle.ion.specs.Calls.Accepted.{dateIn}
 use Rattle.ion.specs.declared.Body.{Body}
 use Rattle.timestamp.proofs.Decides.{Decides}
 use Rattle.timestamp_binary.specs.PartsRead.{UtcInBounds}
-use Rattle.timestamp_binary.proofs.PartsTested.{boundsTest, partsTest, parts-decides}
+use Rattle.timestamp_binary.proofs.PartsTested.{utcBoundsTest, partsTest, parts-decides}
 use Rattle.timestamp_binary.proofs.reader.utc_in_bounds.Statement.{statement}
 use Rattle.timestamp_binary.proofs.reader.utc_in_bounds.Tie as tie
 
@@ -22,7 +22,7 @@ decided {x} e = subst (λ (b : Bool). Decides b (UtcInBounds x)) e (parts-decide
 -- the tests before the fraction's and the date's
 head : (c : tie.After-offset-fits) →
     let x = c .before .before .before .before .before .before .before .args .x in
-    boundsTest x
+    utcBoundsTest x
     ≡ (leb (x .utc .year) 10000 && leb (x .utc .hour) 23 && leb (x .utc .minute) 59 && leb (x .utc .second) 59 && leb (x .utc .digits) 18
     && c .offset-fits .result)
 head c =
@@ -31,7 +31,7 @@ head c =
     ap (λ (b : Bool). leb (u .year) 10000 && leb (u .hour) 23 && leb (u .minute) 59 && leb (u .second) 59 && leb (u .digits) 18 && b)
     (sym (c .offset-fits .ensures))
 
-passed : (c : tie.Else1) → boundsTest (c .before .before .before .before .before .before .before .before .args .x) ≡ true
+passed : (c : tie.Else1) → utcBoundsTest (c .before .before .before .before .before .before .before .before .args .x) ≡ true
 passed c = head (c .before) ∙ not-false _ (c .if1 .left)
 
 returns : tie.Need-returns

@@ -8,11 +8,11 @@ use mir.Syntax.{w64}
 use mir.Facts.{toZ-ofZ, toZ-pos}
 use borrow.Author.Needs.{needs}
 use Rattle.integers.proofs.Parts.{minus-fits}
-use Rattle.ion.specs.Word.{fieldsOf}
-use Rattle.ion.specs.Pair.{wordIn}
-use Rattle.ion.specs.Fraction.{scale}
-use Rattle.ion.specs.Check.{checkOf}
-use Rattle.ion.specs.Reads.{decimalIn, zeroDecimal, decimalFieldOf}
+use Rattle.ion.specs.Pair.Word.{fieldsOf}
+use Rattle.ion.specs.Pair.Pair.{wordIn}
+use Rattle.ion.specs.Pair.Fraction.{scale}
+use Rattle.ion.specs.Calls.Check.{checkOf}
+use Rattle.ion.specs.Calls.Reads.{decimalIn, zeroDecimal, decimalFieldOf}
 use Rattle.ion.specs.declared.Decimal.{Decimal}
 use Rattle.fraction.proofs.Scales.{scale-pos}
 use Rattle.timestamp.proofs.Told.{if-zero, if-refused}
@@ -22,7 +22,7 @@ use Rattle.timestamp_fields.proofs.decimal.fractional_seconds_as_decima
 returns : tie.Need-returns
 unfolding decimalFieldOf
 returns c =
-    let e = c .before .number-of .ensures in
+    let e = c .before .check-number .ensures in
     let s = c .before .before .args .s in
     let d = decimalIn (fieldsOf (wordIn s)) (s .attoseconds) in
     λ i. record { number = e i; value = if-refused d zeroDecimal e (c .if1 .taken) i }
@@ -46,7 +46,7 @@ unfolding decimalFieldOf fieldsOf
 returns-2 c =
     let e1 = c .before .before in
     let s = e1 .before .before .args .s in
-    let e : checkOf s .number ≡ 0 = sym (e1 .before .number-of .ensures) ∙ e1 .if1 .left in
+    let e : checkOf s .number ≡ 0 = sym (e1 .before .check-number .ensures) ∙ e1 .if1 .left in
     let n = c .before .digits .result in
     let k = small c in
     let m = minus-fits w64 n k in

@@ -1,14 +1,14 @@
 -- `timestamp_fields::fields::hour` meets its contract. Assumes nothing.
 use mathlib.Core.Path.{_∙_}
 use borrow.Author.Needs.{needs}
-use Rattle.ion.specs.Word.{fieldsOf}
-use Rattle.timestamp_fields.proofs.Told.{field-told}
+use Rattle.ion.specs.Pair.Word.{fieldsOf}
+use Rattle.timestamp_fields.proofs.FieldReads.{field-read}
 use Rattle.timestamp_fields.proofs.fields.hour.Statement.{statement}
 use Rattle.timestamp_fields.proofs.fields.hour.Tie as tie
 
 returns : tie.Need-returns
 unfolding fieldsOf
-returns c = c .field .ensures ∙ field-told (λ f. f .hour) (c .before .before .args .s) (c .before .hour .ensures)
+returns c = c .field .ensures ∙ field-read (λ f. f .hour) (c .before .before .args .s) (c .before .hour .ensures)
 
 pub hour-spec : {M : Type 1} → statement M
 hour-spec = tie.close (tie.spec (λ c κs. search needs) (λ c κs. search needs) returns)

@@ -5,9 +5,9 @@ use native.Mathlib.Nat.{lt-of-lt-of-le, pow-le-pow-right}
 use native.Mathlib.Omega.{arith}
 use lib.Dec.{lit<}
 use borrow.Author.Needs.{needs}
-use Rattle.ion.specs.Fraction.{scale}
-use Rattle.ion.specs.Check.{checkOf}
-use Rattle.ion.specs.Reads.{unitsOf}
+use Rattle.ion.specs.Pair.Fraction.{scale}
+use Rattle.ion.specs.Calls.Check.{checkOf}
+use Rattle.ion.specs.Calls.Reads.{unitsOf}
 use Rattle.fraction.proofs.Scales.{scale-pos, units-lt}
 use Rattle.timestamp.proofs.Accepts.{check-gives}
 use Rattle.timestamp.proofs.Told.{if-zero, if-refused}
@@ -17,13 +17,13 @@ use Rattle.timestamp_fields.proofs.units.units.Tie as tie
 returns : tie.Need-returns
 unfolding unitsOf
 returns c =
-    let e = c .before .number-of .ensures in
+    let e = c .before .check-number .ensures in
     let a = c .before .before .args in
     λ i. record { number = e i; value = if-refused (a .s .attoseconds / scale (a .digits)) 0 e (c .if1 .taken) i }
 
 -- the check has answered 0
 zero : (c : tie.Else1) → checkOf (c .before .before .args .s) .number ≡ 0
-zero c = sym (c .before .number-of .ensures) ∙ c .if1 .left
+zero c = sym (c .before .check-number .ensures) ∙ c .if1 .left
 
 -- no more than nine digits
 small : (c : tie.Else1) → let a = c .before .before .args in a .s .attoseconds / scale (a .digits) < 10 ^ 9

@@ -2,10 +2,10 @@
 use borrow.Author.Needs.{needs}
 use mathlib.Core.Path.{_≡_, sym, ap, _∙_}
 use lib.ListN.{length}
-use Rattle.ion.specs.Output.{roomFor, wrote}
-use Rattle.ion.specs.Check.{checkOf}
-use Rattle.ion.specs.Text.{textOf}
-use Rattle.ion.specs.Accepted.{Accepted}
+use Rattle.ion.specs.Calls.Output.{roomFor, wrote}
+use Rattle.ion.specs.Calls.Check.{checkOf}
+use Rattle.ion.specs.Text.Format.{textOf}
+use Rattle.ion.specs.Calls.Accepted.{Accepted}
 use Rattle.ion.specs.declared.Fields.{Fields}
 use Rattle.output.proofs.Stores.{has-room, refused-writing, written, passed-writing, stopped-writing}
 use Rattle.timestamp.proofs.Accepts.{check-gives}
@@ -15,21 +15,21 @@ use Rattle.timestamp_text.proofs.formatting.format.Statement.{statement
 use Rattle.timestamp_text.proofs.formatting.format.Tie as tie
 
 returns : tie.Need-returns
-returns c = rw (← c .before .number-of .ensures) (stopped-writing _ _ _ _ (c .if1 .taken))
+returns c = rw (← c .before .check-number .ensures) (stopped-writing _ _ _ _ (c .if1 .taken))
 
 -- the check's number is 0
 passed : (c : tie.Else1) → checkOf (c .before .before .before .args .s) .number ≡ 0
-passed c = sym (c .before .number-of .ensures) ∙ c .if1 .left
+passed c = sym (c .before .check-number .ensures) ∙ c .if1 .left
 
 accepted : (c : tie.Else1) → Accepted (c .before .before .before .args .s)
 accepted c = check-gives (c .before .before .before .args .s) (passed c)
 
-answered : (c : tie.After-room) → let a = c .before .before .before .before .before .before .args in c .room .result ≡ wrote (a .buf .now) (a .at) (textOf (a .s))
+answered : (c : tie.After-room-for) → let a = c .before .before .before .before .before .before .args in c .room-for .result ≡ wrote (a .buf .now) (a .at) (textOf (a .s))
 unfolding textOf
 answered c =
     let u = c .before .before in
     let a = u .before .before .before .before .args in
-    c .room .ensures
+    c .room-for .ensures
     ∙ ap (roomFor (length (a .buf .now)) (a .at))
     (c .before .text-length .ensures
     ∙ ap (λ (f : Fields). textLength (f .precision) (f .digits)) (u .unpack .ensures)

@@ -3,11 +3,11 @@ use borrow.Author.Needs.{needs}
 use mathlib.Core.Path.{refl}
 use Prim.Native.Char.{code}
 use native.Mathlib.Omega.{arith}
-use Rattle.ion.specs.Ascii.{ascii}
-use Rattle.ion.specs.Offset.{offsetOf}
-use Rattle.ion.specs.Output.{Run}
-use Rattle.ion.specs.Padded.{padded}
-use Rattle.ion.specs.Text.{marked, fractionText, offsetText, fieldsText}
+use Rattle.ion.specs.Text.Ascii.{ascii}
+use Rattle.ion.specs.Pair.Offset.{offsetOf}
+use Rattle.ion.specs.Calls.Output.{Run}
+use Rattle.ion.specs.Numbers.Padded.{padded}
+use Rattle.ion.specs.Text.Format.{marked, fractionText, offsetText, fieldsText}
 use Rattle.output.proofs.Runs.{Room, room-first, room-next, run-both}
 use Rattle.timestamp.proofs.Valid.{valid-in-range, valid-offset}
 use Rattle.timestamp_text.specs.Fronts.{toMonth, toDay, toMinute, toSecond, toFraction}

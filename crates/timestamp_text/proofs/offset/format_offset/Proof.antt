@@ -1,8 +1,8 @@
 -- `offset::format_offset` meets its contract. Assumes nothing.
 use borrow.Author.Needs.{needs}
 use mathlib.Core.Path.{refl, sym, subst, _∙_}
-use Rattle.ion.specs.Offset.{WithinDay}
-use Rattle.ion.specs.Text.{offsetText}
+use Rattle.ion.specs.Pair.Offset.{WithinDay}
+use Rattle.ion.specs.Text.Format.{offsetText}
 use Rattle.ion.proofs.Offsets.{back-within}
 use Rattle.timestamp_text.proofs.offset.format_offset.Statement.{statement}
 use Rattle.timestamp_text.proofs.offset.format_offset.Tie as tie

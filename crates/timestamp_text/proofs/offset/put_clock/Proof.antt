@@ -4,7 +4,7 @@ use Prim.Native.Nat.{_/_, _%_}
 use Prim.Native.Char.{code}
 use native.Mathlib.Omega.{arith}
 use lib.Dec.{lit≤}
-use Rattle.ion.specs.Text.{clockText}
+use Rattle.ion.specs.Text.Format.{clockText}
 use Rattle.output.proofs.Runs.{run-two}
 use Rattle.text.proofs.Digits.{length-exact}
 use Rattle.timestamp_text.proofs.Lengths.{length-marked}

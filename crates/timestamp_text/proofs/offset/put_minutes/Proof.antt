@@ -9,7 +9,7 @@ use lib.Signed.{ltZ}
 use mir.Syntax.{w32}
 use mir.Val.{SFits}
 use mir.Facts.{toZ-ofZ}
-use Rattle.integers.proofs.Parts.{Gives, may-cast, to-unsigned, gives-fits}
+use Rattle.integers.proofs.Parts.{IsNatural, may-cast, to-unsigned, natural-fits}
 use Rattle.integers.proofs.Signs.{above-is, negated-is}
 use Rattle.ion.proofs.Offsets.{offset-fits}
 use Rattle.output.proofs.Runs.{run-two}
@@ -33,11 +33,11 @@ fits c = offset-fits (read c) (small c)
 west : (c : tie.Then1) → ltZ (read (c .before)) (pos 0) ≡ true
 west c = let f = fits (c .before) in let h = c .if1 .taken in simp toZ-ofZ at h
 
-negated : (c : tie.Then1) → Gives (pos 0 -ℤ read (c .before)) (natAbs (read (c .before)))
+negated : (c : tie.Then1) → IsNatural (pos 0 -ℤ read (c .before)) (natAbs (read (c .before)))
 negated c = negated-is (read (c .before)) (west c)
 
 negated-fits : (c : tie.Then1) → SFits w32 (pos 0 -ℤ read (c .before))
-negated-fits c = gives-fits w32 (negated c) (omega (arith, small (c .before)))
+negated-fits c = natural-fits w32 (negated c) (omega (arith, small (c .before)))
 
 sub-put-clock : tie.Need-sub-put-clock
 sub-put-clock c =

@@ -4,10 +4,10 @@ use borrow.Author.Tests.{eq-eqb, ne-eqb}
 use mathlib.Core.Path.{_≡_}
 use Prim.Native.Nat.{_+_, _/_}
 use native.Mathlib.Omega.{arith}
-use Rattle.ion.specs.Output.{Run}
-use Rattle.ion.specs.Padded.{digit, lastDigits, padded}
-use Rattle.ion.specs.Fraction.{scale}
-use Rattle.ion.specs.Text.{fractionText}
+use Rattle.ion.specs.Calls.Output.{Run}
+use Rattle.ion.specs.Numbers.Padded.{digit, lastDigits, padded}
+use Rattle.ion.specs.Pair.Fraction.{scale}
+use Rattle.ion.specs.Text.Format.{fractionText}
 use Rattle.places.proofs.Laws.{length-places}
 use Rattle.output.proofs.Runs.{run-none, run-two}
 use Rattle.text.proofs.Digits.{padded-digits}

@@ -2,7 +2,7 @@
 use borrow.Author.Needs.{needs}
 use native.Mathlib.Omega.{arith}
 use lib.Dec.{lit≤}
-use Rattle.ion.specs.Text.{marked}
+use Rattle.ion.specs.Text.Format.{marked}
 use Rattle.output.proofs.Runs.{run-two}
 use Rattle.text.proofs.Digits.{length-exact}
 use Rattle.timestamp_text.proofs.part.put_marked.Statement.{statement}

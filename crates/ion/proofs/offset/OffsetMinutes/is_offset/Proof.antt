@@ -10,7 +10,7 @@ use mir.Val.{SFits}
 use mir.Facts.{toZ-ofZ}
 use borrow.Author.Needs.{needs}
 use borrow.Author.Tests.{lt-ltb, le-ltb, ltb-true, ltb-false}
-use Rattle.ion.specs.Offset.{isOffset}
+use Rattle.ion.specs.Pair.Offset.{isOffset}
 use Rattle.ion.proofs.offset.OffsetMinutes.is_offset.Statement.{statement}
 use Rattle.ion.proofs.offset.OffsetMinutes.is_offset.Tie as tie
 

@@ -3,7 +3,7 @@ use mathlib.Core.Path.{ap}
 use native.Mathlib.Omega.{arith}
 use lib.IntN.{pos, +ℤ-idl}
 use mir.Facts.{toZ-ofZ}
-use Rattle.ion.specs.Offset.{minutesIs}
+use Rattle.ion.specs.Pair.Offset.{offsetMinutes}
 use Rattle.ion.proofs.Offsets.{offset-fits, difference-fits}
 use Rattle.ion.proofs.offset.OffsetMinutes.negated.Statement.{statement}
 use Rattle.ion.proofs.offset.OffsetMinutes.negated.Tie as tie
@@ -19,7 +19,7 @@ returns c =
     let s = c .before .before in
     let f = offset-fits (s .args .self .0) (s .pre) in
     let g = difference-fits (pos 0) (s .args .self .0) (omega arith) (omega (arith, s .pre)) in
-    simp toZ-ofZ (ap minutesIs (+ℤ-idl _))
+    simp toZ-ofZ (ap offsetMinutes (+ℤ-idl _))
 
 pub negated-spec : {M : Type 1} → statement M
 negated-spec = tie.close (tie.spec sub-t2 returns)

@@ -1,0 +1,72 @@
+-- What a C function hands out of an answer: it returns the number, n, and sets the rest through references. Assumes nothing.
+use Prim.Native.Nat.{ℕ}
+use mathlib.Core.Path.{_≡_}
+use mathlib.Core.Bool.{Bool, true, false}
+use lib.IntN.{ℤ}
+use Rattle.ion.specs.Pair.Pair.{wordIn}
+use Rattle.ion.specs.Pair.Offset.{minutesOf}
+use Rattle.ion.specs.declared.offset.Offset.{Offset}
+use Rattle.ion.specs.declared.offset.Offset.the-variants.{Unknown, Known}
+use Rattle.ion.specs.declared.Built.{Built}
+use Rattle.ion.specs.declared.Field.{Field}
+use Rattle.ion.specs.declared.Attoseconds.{Attoseconds}
+use Rattle.ion.specs.declared.DecimalField.{DecimalField}
+use Rattle.ion.specs.declared.OffsetField.{OffsetField}
+use Rattle.ion.specs.declared.Ordered.{Ordered}
+use Rattle.ion.specs.declared.Compared.{Compared}
+use Rattle.ion.specs.declared.Distance.{Distance}
+use Rattle.ion.specs.declared.Written.{Written}
+use Rattle.ion.specs.declared.Read.{Read}
+
+abbrev pub isKnown : Offset → Bool
+isKnown Unknown = false
+isKnown (Known m) = true
+
+pub record BuiltIs (b : Built) (n w a : ℕ) : Type 0 where
+  pub number : n ≡ b .number
+  pub word : w ≡ wordIn (b .stamp)
+  pub attoseconds : a ≡ b .stamp .attoseconds
+
+pub record FieldIs (f : Field) (n v : ℕ) : Type 0 where
+  pub number : n ≡ f .number
+  pub value : v ≡ f .value
+
+pub record AttosecondsIs (f : Attoseconds) (n v : ℕ) : Type 0 where
+  pub number : n ≡ f .number
+  pub value : v ≡ f .value
+
+-- a fraction is not below zero, so its sign is left out
+pub record DecimalIs (f : DecimalField) (n c : ℕ) (e : ℤ) : Type 0 where
+  pub number : n ≡ f .number
+  pub coefficient : c ≡ f .value .coefficient
+  pub exponent : e ≡ f .value .exponent
+
+-- an unknown offset is not known, with 0 minutes
+pub record OffsetIs (f : OffsetField) (n : ℕ) (k : Bool) (m : ℤ) : Type 0 where
+  pub number : n ≡ f .number
+  pub known : k ≡ isKnown (f .value)
+  pub minutes : m ≡ minutesOf (f .value)
+
+pub record OrderedIs (x : Ordered) (n : ℕ) (o : ℤ) : Type 0 where
+  pub number : n ≡ x .number
+  pub order : o ≡ x .order
+
+pub record ComparedIs (x : Compared) (n : ℕ) (e : Bool) : Type 0 where
+  pub number : n ≡ x .number
+  pub equal : e ≡ x .equal
+
+pub record DistanceIs (d : Distance) (n : ℕ) (z : ℤ) (s a : ℕ) : Type 0 where
+  pub number : n ≡ d .number
+  pub sign : z ≡ d .sign
+  pub seconds : s ≡ d .seconds
+  pub attoseconds : a ≡ d .attoseconds
+
+pub record WrittenIs (x : Written) (n k : ℕ) : Type 0 where
+  pub number : n ≡ x .number
+  pub written : k ≡ x .written
+
+pub record ReadIs (x : Read) (n w a k : ℕ) : Type 0 where
+  pub number : n ≡ x .number
+  pub word : w ≡ wordIn (x .stamp)
+  pub attoseconds : a ≡ x .stamp .attoseconds
+  pub taken : k ≡ x .taken

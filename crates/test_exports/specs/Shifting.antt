@@ -1,0 +1,30 @@
+-- A date and time moved by an offset, where they are such. Assumes nothing.
+use Prim.Native.Nat.{ℕ}
+use mathlib.Core.Bool.{Bool, cond, _&&_}
+use mathlib.Core.List.{List, [], _∷_}
+use mathlib.Core.Path.{_≡_}
+use lib.Dec.{leb, ltb}
+use lib.IntN.{ℤ}
+use Rattle.ion.specs.Calendar.Dates.{isDate}
+use Rattle.ion.specs.Pair.Offset.{isOffset}
+use Rattle.ion.specs.Calendar.Shift.{dateOf, shifted}
+use Rattle.ion.specs.declared.DateTime.{DateTime}
+use Rattle.test_exports.specs.declared.shifting.Moved.{Moved}
+
+-- the number of a shift of no date and time of the years 0 to 10000, or by minutes of no offset: of tests alone, and above all of the
+-- table's
+abbrev pub notMovable : ℕ
+notMovable = 102
+
+abbrev pub isMovable : DateTime → ℤ → Bool
+isMovable t z = leb (t .year) 10000 && isDate (dateOf t) && ltb (t .hour) 24 && ltb (t .minute) 60 && isOffset z
+
+abbrev pub noTime : DateTime
+noTime = record { year = 0; month = 0; day = 0; hour = 0; minute = 0 }
+
+unfoldable pub movedBy : DateTime → ℤ → Moved
+movedBy t z = cond (isMovable t z) (record { number = 0; time = shifted t z }) (record { number = notMovable; time = noTime })
+
+pub record MovedIs (m : Moved) (n : ℕ) (l : List ℕ) : Type 0 where
+  pub number : n ≡ m .number
+  pub time : l ≡ m .time .year ∷ m .time .month ∷ m .time .day ∷ m .time .hour ∷ m .time .minute ∷ []

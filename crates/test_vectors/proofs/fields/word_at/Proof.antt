@@ -1,0 +1,22 @@
+-- `test_vectors::fields::word_at` meets its contract. Assumes nothing.
+use Rattle.test_vectors.specs.Fields.{wordAt}
+use borrow.Author.Needs.{needs}
+use Rattle.test_vectors.proofs.fields.word_at.Statement.{statement}
+use Rattle.test_vectors.proofs.fields.word_at.Tie as tie
+
+returns : tie.Need-returns
+unfolding wordAt
+returns c = cc
+
+pub word-at-spec : {M : Type 1} → statement M
+word-at-spec =
+    tie.close
+    (tie.spec
+    (λ c κs. search needs)
+    (λ c. search needs)
+    (λ c. search needs)
+    (λ c. search needs)
+    (λ c κs. search needs)
+    (λ c. search needs)
+    (λ c. search needs)
+    returns)
