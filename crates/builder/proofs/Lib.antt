@@ -1,6 +1,6 @@
 -- The laws of building: its checks, its routes, the local time, and what the stages give.
 pub mod Checks
 pub mod Bounds
-pub mod Routes
+pub mod Routed
 pub mod Times
 pub mod Stages

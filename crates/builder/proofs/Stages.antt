@@ -6,7 +6,9 @@ use native.Mathlib.Omega.{arith}
 use Rattle.ion.specs.Pair.Fraction.{scale}
 use Rattle.ion.specs.Calls.Build.{precisionNumber}
 use Rattle.ion.specs.Calls.Accepted.{Staged}
-use Rattle.ion.specs.Calls.Stages.{builderFields, withYear, withMonth, withDay, withHour, withHourAndMinute, withMinute, withSecond, withFraction, withOffset, Stage, hasYear, hasMonth, hasDay, hasHour, hasMinute, hasSeconds, hasFraction, hasOffset, Offsets, Gives}
+use Rattle.ion.specs.Calls.Stages.{builderFields, withYear, withMonth, withDay, withHour, withHourAndMinute, withMinute, withSecond}
+use Rattle.ion.specs.Calls.Stages.{withFraction, withOffset, Stage, hasYear, hasMonth, hasDay, hasHour, hasMinute, hasSeconds, hasFraction}
+use Rattle.ion.specs.Calls.Stages.{hasOffset, Offsets, Gives}
 use Rattle.ion.specs.Calls.Stages as stages
 use Rattle.ion.specs.declared.BuilderFields.{BuilderFields}
 use Rattle.ion.specs.declared.BuilderOffset.{BuilderOffset}
@@ -28,7 +30,9 @@ At hasDay f = f ≡ builderFields Day Unknown (f .year) (f .month) (f .day) 0 0 
 At hasHour f = f ≡ builderFields HourAndMinute Unknown (f .year) (f .month) (f .day) (f .hour) 0 0 0 0
 At hasMinute f = f ≡ builderFields HourAndMinute Unknown (f .year) (f .month) (f .day) (f .hour) (f .minute) 0 0 0
 At hasSeconds f = f ≡ builderFields Second Unknown (f .year) (f .month) (f .day) (f .hour) (f .minute) (f .second) 0 0
-At hasFraction f = (f ≡ builderFields Second Unknown (f .year) (f .month) (f .day) (f .hour) (f .minute) (f .second) (f .attoseconds) (f .digits)) × Cut (f .attoseconds) (f .digits)
+At hasFraction f =
+    (f ≡ builderFields Second Unknown (f .year) (f .month) (f .day) (f .hour) (f .minute) (f .second) (f .attoseconds) (f .digits)) × Cut
+    (f .attoseconds) (f .digits)
 At hasOffset f = Staged f
 
 -- fields to the minute, and to the second, with any offset
@@ -63,12 +67,16 @@ no-fraction h = refl
 
 offset-staged : {t : Stage} (f : BuilderFields) (o : BuilderOffset) → Offsets t → At t f → Staged (withOffset f o)
 unfolding At
-offset-staged f o stages.hour e = subst (λ (g : BuilderFields). Staged (withOffset g o)) (sym e) (to-minute o (f .year) (f .month) (f .day) (f .hour) 0)
-offset-staged f o stages.minute e = subst (λ (g : BuilderFields). Staged (withOffset g o)) (sym e) (to-minute o (f .year) (f .month) (f .day) (f .hour) (f .minute))
+offset-staged f o stages.hour e =
+    subst (λ (g : BuilderFields). Staged (withOffset g o)) (sym e) (to-minute o (f .year) (f .month) (f .day) (f .hour) 0)
+offset-staged f o stages.minute e =
+    subst (λ (g : BuilderFields). Staged (withOffset g o)) (sym e) (to-minute o (f .year) (f .month) (f .day) (f .hour) (f .minute))
 offset-staged f o stages.seconds e =
-    subst (λ (g : BuilderFields). Staged (withOffset g o)) (sym e) (to-second o (f .year) (f .month) (f .day) (f .hour) (f .minute) (f .second) 0 0 no-fraction)
+    subst (λ (g : BuilderFields). Staged (withOffset g o)) (sym e)
+    (to-second o (f .year) (f .month) (f .day) (f .hour) (f .minute) (f .second) 0 0 no-fraction)
 offset-staged f o stages.fraction (e, c) =
-    subst (λ (g : BuilderFields). Staged (withOffset g o)) (sym e) (to-second o (f .year) (f .month) (f .day) (f .hour) (f .minute) (f .second) (f .attoseconds) (f .digits) c)
+    subst (λ (g : BuilderFields). Staged (withOffset g o)) (sym e)
+    (to-second o (f .year) (f .month) (f .day) (f .hour) (f .minute) (f .second) (f .attoseconds) (f .digits) c)
 
 at-stage : {t : Stage} {f : BuilderFields} → Gives t f → At t f
 unfolding At
@@ -83,7 +91,8 @@ at-stage (stages.fraction {x = x} g k) = (ap (λ (f : BuilderFields). withFracti
 at-stage (stages.local {f = f} o g m) = offset-staged f (FromLocalFields m) o (at-stage g)
 at-stage (stages.utc {f = f} o g m) = offset-staged f (FromUtcFields m) o (at-stage g)
 
-to-day : (p : TimestampPrecision) (y mo d : ℕ) → (precisionNumber p < 1 → mo ≡ 1) → (precisionNumber p < 2 → d ≡ 1) → Staged (builderFields p Unknown y mo d 0 0 0 0 0)
+to-day : (p : TimestampPrecision) (y mo d : ℕ) → (precisionNumber p < 1 → mo ≡ 1) → (precisionNumber p < 2 → d ≡ 1)
+    → Staged (builderFields p Unknown y mo d 0 0 0 0 0)
 to-day p y mo d h k =
     record {
       month = h;
@@ -100,11 +109,14 @@ staged-at : (t : Stage) (f : BuilderFields) → At t f → Staged f
 unfolding At
 staged-at hasYear f e = subst Staged (sym e) (to-day Year (f .year) 1 1 (λ k. refl) (λ k. refl))
 staged-at hasMonth f e = subst Staged (sym e) (to-day Month (f .year) (f .month) 1 (λ k. absurd (omega arith)) (λ k. refl))
-staged-at hasDay f e = subst Staged (sym e) (to-day Day (f .year) (f .month) (f .day) (λ k. absurd (omega arith)) (λ k. absurd (omega arith)))
+staged-at hasDay f e =
+    subst Staged (sym e) (to-day Day (f .year) (f .month) (f .day) (λ k. absurd (omega arith)) (λ k. absurd (omega arith)))
 staged-at hasHour f e = subst Staged (sym e) (to-minute Unknown (f .year) (f .month) (f .day) (f .hour) 0)
 staged-at hasMinute f e = subst Staged (sym e) (to-minute Unknown (f .year) (f .month) (f .day) (f .hour) (f .minute))
-staged-at hasSeconds f e = subst Staged (sym e) (to-second Unknown (f .year) (f .month) (f .day) (f .hour) (f .minute) (f .second) 0 0 no-fraction)
-staged-at hasFraction f (e, c) = subst Staged (sym e) (to-second Unknown (f .year) (f .month) (f .day) (f .hour) (f .minute) (f .second) (f .attoseconds) (f .digits) c)
+staged-at hasSeconds f e =
+    subst Staged (sym e) (to-second Unknown (f .year) (f .month) (f .day) (f .hour) (f .minute) (f .second) 0 0 no-fraction)
+staged-at hasFraction f (e, c) =
+    subst Staged (sym e) (to-second Unknown (f .year) (f .month) (f .day) (f .hour) (f .minute) (f .second) (f .attoseconds) (f .digits) c)
 staged-at hasOffset f s = s
 
 pub gives-staged : {t : Stage} {f : BuilderFields} → Gives t f → Staged f

@@ -7,7 +7,8 @@ use borrow.Author.Tests.{not-false}
 use Rattle.ion.specs.Calendar.Shift.{IsDateTime, dateOf}
 use Rattle.ion.specs.Pair.Offset.{WithinDay}
 use Rattle.ion.specs.Pair.Word.{InRange}
-use Rattle.ion.specs.Calls.Build.{precisionNumber, isYear, isDay, offsetGiven, routeChecks, localChecks, givenTime, movedTime, localTime, packedOf}
+use Rattle.ion.specs.Calls.Build.{precisionNumber, isYear, isDay, offsetGiven, routeChecks, localChecks, givenTime, movedTime, localTime}
+use Rattle.ion.specs.Calls.Build.{packedOf}
 use Rattle.ion.specs.Calls.Accepted.{InBounds, Staged}
 use Rattle.ion.specs.declared.DateTime.{DateTime}
 use Rattle.ion.specs.declared.BuilderFields.{BuilderFields}
@@ -36,9 +37,20 @@ year-alone b s e =
     simp (m, d) (first-day-is (b .year))
 
 -- a date and a time in a year that fits have room in the word
-pub time-in-range : (f : BuilderFields) (t : DateTime) (o : Offset) → InBounds f → IsDateTime t → t .year ≤ 10000 → WithinDay o → InRange (packedOf f t o)
+pub time-in-range : (f : BuilderFields) (t : DateTime) (o : Offset) → InBounds f → IsDateTime t → t .year ≤ 10000 → WithinDay o
+    → InRange (packedOf f t o)
 time-in-range f t o b p y w =
-    omega (arith, month-of (dateOf t) (p .date), day-of (dateOf t) (p .date), p .hours, p .minutes, b .second, b .digits, precision-le (f .precision), raw-lt o w)
+    omega (
+      arith,
+      month-of (dateOf t) (p .date),
+      day-of (dateOf t) (p .date),
+      p .hours,
+      p .minutes,
+      b .second,
+      b .digits,
+      precision-le (f .precision),
+      raw-lt o w,
+    )
 
 -- a date and a time in a year from 1 to 9999
 pub record IsLocalTime (t : DateTime) : Type 0 where
@@ -52,7 +64,8 @@ given-is f b h =
     record { time = time-is f b (not-false (isDay f) (h .1 .0)); from-year = y .0; to-year = y .1 }
 
 -- the local time, on either route
-pub local-is : (f : BuilderFields) (o : BuilderOffset) → InBounds f → WithinDay (offsetGiven o) → AllPass (routeChecks f o) → IsLocalTime (localTime f o)
+pub local-is : (f : BuilderFields) (o : BuilderOffset) → InBounds f → WithinDay (offsetGiven o) → AllPass (routeChecks f o)
+    → IsLocalTime (localTime f o)
 local-is f Unknown b w h = given-is f b h
 local-is f (FromLocalFields m) b w h = given-is f b h
 local-is f (FromUtcFields m) b w h =

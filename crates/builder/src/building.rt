@@ -1,6 +1,6 @@
 // The builder: the checks 1 to 9 in their order, then the route of the fields.
-use crate::local_route::from_fields;
-use crate::utc_route::from_utc_fields;
+use crate::routes::from_fields;
+use crate::routes::from_utc_fields;
 use ion::BuilderFields;
 use ion::BuilderOffset;
 use ion::Built;
@@ -9,6 +9,7 @@ use ion::offset;
 use ion::offset::Offset;
 use ion::refusal;
 ghost use mathlib.Core.Path.{_≡_};
+ghost use Rattle.ion.specs.Calls.Accepted.{Staged};
 ghost use Rattle.ion.specs.Calls.Build.{offsetGiven, isUtc, offsetOutside, firstOf, rangeChecks, buildOf};
 
 // Whether an offset is known and a day or more.
@@ -103,4 +104,12 @@ pub(crate) fn build(f: BuilderFields) -> Built
         return from_utc_fields(f, offset::minutes_of(o));
     }
     from_fields(f, o)
+}
+
+// For the crates above that gather fields in one record: what they pass must be fields that the stages can give.
+pub fn build_fields(f: BuilderFields) -> Built
+    requires { ⌜ Staged f ⌝ }
+    ensures { λ r. ⌜ r ≡ buildOf f ⌝ }
+{
+    build(f)
 }

@@ -1,22 +1,12 @@
-// The builder. Its stages are a struct for each around the fields given so far, with its setters and `build` in the file of
-// its name: a finer field is given only after the coarser one, a fraction only after the second, an offset last.
-mod answer;
+// The builder. Its stages are a struct for each around the fields given so far, with its setters and `build`:
+// a finer field is given only after the coarser one, a fraction only after the second, an offset last.
 mod building;
-mod counting;
-mod fields;
-mod has_day;
-mod has_fractional_seconds;
-mod has_hour;
-mod has_minute;
-mod has_month;
-mod has_offset;
-mod has_seconds;
-mod has_year;
-mod local_route;
+mod date;
 mod offset;
-mod utc_route;
+mod routes;
+mod time;
 
-pub use fields::build_fields;
+pub use building::build_fields;
 use ion::BuilderFields;
 use ion::BuilderOffset;
 use ion::TimestampPrecision;

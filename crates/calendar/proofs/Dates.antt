@@ -7,7 +7,8 @@ use native.Mathlib.Decide.{decLe, decLt}
 use native.Mathlib.Omega.{arith}
 use lib.Dec.{leb}
 use borrow.Author.Tests.{leb-true, le-leb, lt-leb}
-use Rattle.ion.specs.Calendar.Dates.{isLeap, monthLengthOf, monthLength, yearLength, sumBelow, monthStart, dayNumber, IsDate, Earlier, isDate}
+use Rattle.ion.specs.Calendar.Dates.{isLeap, monthLengthOf, monthLength, yearLength, sumBelow, monthStart, dayNumber, IsDate, Earlier}
+use Rattle.ion.specs.Calendar.Dates.{isDate}
 use Rattle.ion.specs.declared.Date.{Date}
 use Rattle.calendar.proofs.Sums.{sum-past}
 use Rattle.calendar.proofs.Years.{leapsBefore, leap-day-le, year-start}

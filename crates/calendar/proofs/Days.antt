@@ -20,7 +20,8 @@ year-pos (suc y) h = omega arith
 pub next-day : (t : Date) → IsDate t → IsDate (nextDay t) × (dayNumber (nextDay t) ≡ dayNumber t + 1)
 next-day t p = go (decLt (t .day) (monthLength (t .year) (t .month))) (decLt (t .month) 12)
   where
-    go : Dec (t .day < monthLength (t .year) (t .month)) → Dec (t .month < 12) → IsDate (nextDay t) × (dayNumber (nextDay t) ≡ dayNumber t + 1)
+    go : Dec (t .day < monthLength (t .year) (t .month)) → Dec (t .month < 12)
+        → IsDate (nextDay t) × (dayNumber (nextDay t) ≡ dayNumber t + 1)
     go (yes h) k = simp (lt-ltb _ _ h) (record { first = omega arith; last = omega arith }, omega arith)
     go (no h) (yes k) =
         let full : monthLength (t .year) (t .month) ≤ t .day = omega arith in
@@ -70,7 +71,13 @@ prev-day t p pos = go (decLt 1 (t .day)) (decLt 1 (t .month))
         low′ = omega arith
 
         first : dayNumber t ≡ yearStart (t .year)
-        first = omega (arith, p .first, january (isLeap (t .year)), ap (monthStart (t .year)) (let f : t .month ≡ 1 = omega (arith, month-low t p) in f))
+        first =
+            omega (
+              arith,
+              p .first,
+              january (isLeap (t .year)),
+              ap (monthStart (t .year)) (let f : t .month ≡ 1 = omega (arith, month-low t p) in f),
+            )
 
         e : t .year - 1 + 1 ≡ t .year
         e = year-pos (t .year) (omega (arith, first, pos))

@@ -74,7 +74,8 @@ pub month-most : (leap : Bool) (m : ℕ) → monthLengthOf leap m ≤ 31
 month-most leap m = go (decLe 1 (monthLengthOf leap m))
   where
     go : Dec (1 ≤ monthLengthOf leap m) → monthLengthOf leap m ≤ 31
-    go (yes h) = leb→le (monthLengthOf leap m) 31 (each-month (λ x. leb x 31) tt tt leap m (month-from-one leap m h) (month-to-twelve leap m h))
+    go (yes h) =
+        leb→le (monthLengthOf leap m) 31 (each-month (λ x. leb x 31) tt tt leap m (month-from-one leap m h) (month-to-twelve leap m h))
     go (no h) = omega (arith, h)
 
 pub december : (leap : Bool) → monthLengthOf leap 12 ≡ 31

@@ -24,14 +24,16 @@ forward t (suc n) p =
     let k = next-day (repeat nextDay n t) (h .0) in
     (k .0, omega (arith, h .1, k .1))
 
-backward : (t : Date) (n : ℕ) → IsDate t → n ≤ dayNumber t → IsDate (repeat prevDay n t) × (dayNumber (repeat prevDay n t) + n ≡ dayNumber t)
+backward : (t : Date) (n : ℕ) → IsDate t → n ≤ dayNumber t
+    → IsDate (repeat prevDay n t) × (dayNumber (repeat prevDay n t) + n ≡ dayNumber t)
 backward t zero p l = (p, omega arith)
 backward t (suc n) p l =
     let h = backward t n p (omega arith) in
     let k = prev-day (repeat prevDay n t) (h .0) (omega (arith, h .1)) in
     (k .0, omega (arith, h .1, k .1))
 
-pub add-days : (t : Date) (z : ℤ) → IsDate t → down z ≤ dayNumber t → IsDate (addDays t z) × (dayNumber (addDays t z) + down z ≡ dayNumber t + up z)
+pub add-days : (t : Date) (z : ℤ) → IsDate t → down z ≤ dayNumber t
+    → IsDate (addDays t z) × (dayNumber (addDays t z) + down z ≡ dayNumber t + up z)
 add-days t (pos n) p l = let h = forward t n p in (h .0, omega (arith, h .1))
 add-days t (negsuc n) p l = let h = backward t (suc n) p l in (h .0, omega (arith, h .1))
 

@@ -39,7 +39,8 @@ pub leap-day-le : (leap : Bool) → leapDay leap ≤ 1
 leap-day-le true = le-refl 1
 leap-day-le false = zero-le
 
-leap-count : (p q r : Bool) → leapDay r ≤ leapDay q → leapDay q ≤ leapDay p → leapDay ((p && not q) || r) + leapDay q ≡ leapDay p + leapDay r
+leap-count : (p q r : Bool) → leapDay r ≤ leapDay q → leapDay q ≤ leapDay p
+    → leapDay ((p && not q) || r) + leapDay q ≡ leapDay p + leapDay r
 leap-count true true true h k = refl
 leap-count true true false h k = refl
 leap-count true false true h k = omega arith

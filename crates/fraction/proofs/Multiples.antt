@@ -30,6 +30,8 @@ multiple (stages.nanos n) = cap-multiple (n * scale 9) (scale 9) (mul-mod-left n
 multiple (stages.nanosTo n d) = cap-multiple _ (scale d) (cut-multiple d (n * scale 9))
 multiple (stages.decimals d) = go (belowZero d)
   where
-    go : (t : Bool) → let v = cond t (10 ^ 18) (attosecondsOf (d .coefficient) (digitsOf (d .exponent))) in capped v < 10 ^ 18 → capped v % scale (digitsOf (d .exponent)) ≡ 0
+    go : (t : Bool) → let v =
+        cond t (10 ^ 18) (attosecondsOf (d .coefficient) (digitsOf (d .exponent))) in capped v < 10 ^ 18 → capped v % scale
+        (digitsOf (d .exponent)) ≡ 0
     go true h = absurd (omega (arith, cap-high (10 ^ 18) (lit≤ tt)))
     go false h = cap-multiple _ (scale (digitsOf (d .exponent))) (decimal-multiple (d .coefficient) (digitsOf (d .exponent))) h

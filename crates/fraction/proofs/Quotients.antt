@@ -1,7 +1,8 @@
 -- A coefficient times 10^18, divided by a power of ten. Assumes nothing.
 use mathlib.Core.Path.{_≡_, sym, ap, _∙_}
 use Prim.Native.Nat.{ℕ, _+_, _-_, _*_, _/_, _^_, _≤_, _<_, min}
-use native.Mathlib.Nat.{mul-assoc, mul-div-cancel, mul-div-mul-right, div-eq-of-lt, div-div-eq-div-mul, pow-le-pow-right, lt-trans, lt-of-lt-of-le}
+use native.Mathlib.Nat.{mul-assoc, mul-div-cancel, mul-div-mul-right, div-eq-of-lt, div-div-eq-div-mul, pow-le-pow-right, lt-trans}
+use native.Mathlib.Nat.{lt-of-lt-of-le}
 use native.Mathlib.Decide.{decLe}
 use native.Mathlib.Omega.{arith}
 use lib.Dec.{lit<}
@@ -28,7 +29,8 @@ none-left n m k h l = div-eq-of-lt (lt-of-lt-of-le h (pow-le-pow-right {n = 10} 
 
 -- and with more than eighteen it is divided twice
 pub twice : (n d : ℕ) → n < 2 ^ 64 → 18 < d → n / 10 ^ 18 / 10 ^ min (d - 18) 18 ≡ n / 10 ^ min d 20
-twice n d h l = div-div-eq-div-mul n (10 ^ 18) (10 ^ min (d - 18) 18) ∙ ap (λ (m : ℕ). n / m) (sym (pow-add 10 18 (min (d - 18) 18))) ∙ go (decLe d 20)
+twice n d h l =
+    div-div-eq-div-mul n (10 ^ 18) (10 ^ min (d - 18) 18) ∙ ap (λ (m : ℕ). n / m) (sym (pow-add 10 18 (min (d - 18) 18))) ∙ go (decLe d 20)
   where
     go : Dec (d ≤ 20) → n / 10 ^ (18 + min (d - 18) 18) ≡ n / 10 ^ min d 20
     go (yes k) = let e : 18 + min (d - 18) 18 ≡ min d 20 = omega arith in ap (λ (m : ℕ). n / 10 ^ m) e

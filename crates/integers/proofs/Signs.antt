@@ -7,7 +7,8 @@ use lib.IntN.{ℤ, pos, natAbs, negℤ, _+ℤ_, _-ℤ_}
 use lib.Signed.{ltZ}
 use mir.Syntax.{Width}
 use mir.Val.{SFits, hbits}
-use Rattle.integers.proofs.Parts.{IsNatural, apart, natAbs-parts, add-parts, neg-parts, sub-parts, lt-parts, ge-parts, parts-fit, fit-parts}
+use Rattle.integers.proofs.Parts.{IsNatural, apart, natAbs-parts, add-parts, neg-parts, sub-parts, lt-parts, ge-parts, parts-fit}
+use Rattle.integers.proofs.Parts.{fit-parts}
 
 pub size-neg : (z : ℤ) → natAbs (negℤ z) ≡ natAbs z
 size-neg z = omega (arith, natAbs-parts z, natAbs-parts (negℤ z), neg-parts z)

@@ -23,7 +23,8 @@ pub offset-fits : (z : ℤ) → natAbs z < 1440 → SFits w32 z
 offset-fits z h = abs-fits w32 z (omega arith)
 
 pub sum-fits : (a b : ℤ) → natAbs a < 2 ^ 16 → natAbs b < 2 ^ 16 → SFits w32 (a +ℤ b)
-sum-fits a b h k = abs-fits w32 (a +ℤ b) (omega (arith, natAbs-parts a, natAbs-parts b, natAbs-parts (a +ℤ b), add-parts a b, apart (a +ℤ b)))
+sum-fits a b h k =
+    abs-fits w32 (a +ℤ b) (omega (arith, natAbs-parts a, natAbs-parts b, natAbs-parts (a +ℤ b), add-parts a b, apart (a +ℤ b)))
 
 pub difference-fits : (a b : ℤ) → natAbs a < 2 ^ 16 → natAbs b < 2 ^ 16 → SFits w32 (a -ℤ b)
 difference-fits a b h k = sum-fits a (negℤ b) h (omega (arith, size-neg b))

@@ -68,7 +68,8 @@ module _ (n : ℕ) (d : List ℕ) (at : ℕ) (s : List ℕ) where
   unfolding putAfter
   put-passed e = rw e
 
-  pub passed-writing : {w : Written} {e : List ℕ} → n ≡ 0 → (w ≡ wrote d at s) × (e ≡ put d at s) → (w ≡ wroteAfter n d at s) × (e ≡ putAfter n d at s)
+  pub passed-writing : {w : Written} {e : List ℕ} → n ≡ 0 → (w ≡ wrote d at s) × (e ≡ put d at s)
+      → (w ≡ wroteAfter n d at s) × (e ≡ putAfter n d at s)
   passed-writing z p = (p .0 ∙ sym (wrote-passed z), p .1 ∙ sym (put-passed z))
 
   pub stopped-writing : (n ≡ 0 → ⊥) → (refusedWriting n ≡ wroteAfter n d at s) × (d ≡ putAfter n d at s)
@@ -102,7 +103,9 @@ over-over d at s t n e h =
     let r = drop (at + n + length t) d in
     let k : at + n + length t ≡ at + length (s ++ t) = omega (arith, length-append s t) in
     ap₂ (λ (x y : List ℕ). x ++ (t ++ y)) (take-over d at s n e (omega arith))
-    (sym (drop-drop (length t) (at + n) (over d at s)) ∙ ap (drop (length t)) (drop-over d at s n e (omega arith)) ∙ drop-drop (length t) (at + n) d)
+    (sym (drop-drop (length t) (at + n) (over d at s))
+    ∙ ap (drop (length t)) (drop-over d at s n e (omega arith))
+    ∙ drop-drop (length t) (at + n) d)
     ∙ append-assoc (take at d) s (t ++ r)
     ∙ ap (λ (x : List ℕ). take at d ++ x) (sym (append-assoc s t r) ∙ ap (λ (j : ℕ). (s ++ t) ++ drop j d) k)
 
@@ -111,7 +114,8 @@ over-over d at s t n e h =
 pub paste-over : (d : List ℕ) (at : ℕ) (s : List ℕ) (n : ℕ) → length s ≡ n → paste d at s n ≡ over d at s
 paste-over d at s n e = rw (← e, take-length s) (append-assoc (take at d) s (drop (at + length s) d))
 
-pub paste-next : (d b : List ℕ) (at : ℕ) (s : List ℕ) (j x : ℕ) → at + length s ≤ length d → j < length s → b ≡ paste d at s j → x ≡ getD s j 0
+pub paste-next : (d b : List ℕ) (at : ℕ) (s : List ℕ) (j x : ℕ) → at + length s ≤ length d → j < length s → b ≡ paste d at s j
+    → x ≡ getD s j 0
     → set b (at + j) x ≡ paste d at s (j + 1)
 paste-next d b at s j x hd hj eb ex = rw (eb, ex, add-one j) (paste-suc d at s j 0 (omega arith) hj)
 
@@ -128,4 +132,6 @@ unfolding placesOn places
 places-stored b f d l at n v i q e et el =
     let z : at - at ≡ 0 = omega arith in
     over-is d l at (places b f n v) et
-    (rw (e, z) at el ∙ sym (places-append b f n v [] (drop (at + n) d)) ∙ ap (λ (m : ℕ). places b f n v ++ drop (at + m) d) (sym (length-places b f n v)))
+    (rw (e, z) at el
+    ∙ sym (places-append b f n v [] (drop (at + n) d))
+    ∙ ap (λ (m : ℕ). places b f n v ++ drop (at + m) d) (sym (length-places b f n v)))

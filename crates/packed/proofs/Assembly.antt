@@ -16,7 +16,9 @@ ors acc (k ∷ ks) (x ∷ xs) = ors (bitOr acc (x * 2 ^ total ks % 2 ^ 64)) ks x
 
 place : (hi x k t : ℕ) → x < 2 ^ k → k + t ≤ 64 → bitOr (hi * 2 ^ (k + t)) (x * 2 ^ t % 2 ^ 64) ≡ (hi * 2 ^ k + x) * 2 ^ t
 place hi x k t hx l =
-    ap (bitOr (hi * 2 ^ (k + t))) (shl-exact k t 64 hx l) ∙ or-shifted hi (k + t) (x * 2 ^ t) (shl-lt k t hx) ∙ rw (pow-add 2 k t) (omega arith)
+    ap (bitOr (hi * 2 ^ (k + t))) (shl-exact k t 64 hx l)
+    ∙ or-shifted hi (k + t) (x * 2 ^ t) (shl-lt k t hx)
+    ∙ rw (pow-add 2 k t) (omega arith)
 
 ors-above : (ks xs : List ℕ) (hi : ℕ) → Within ks xs → total ks ≤ 64 → ors (hi * 2 ^ total ks) ks xs ≡ hi * 2 ^ total ks + join ks xs
 ors-above [] [] hi h l = omega arith

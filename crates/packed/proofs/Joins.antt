@@ -45,7 +45,8 @@ join-before (k ∷ ks) (x ∷ xs) (y ∷ ys) hx hy (inl l) = omega (arith, mul-l
 join-before (k ∷ ks) (x ∷ xs) (y ∷ ys) hx hy (inr (e, b)) =
     omega (arith, ap (λ (n : ℕ). n * 2 ^ total ks) e, join-before ks xs ys (hx .1) (hy .1) b)
 
-before-cases : (x y j i p : ℕ) {B : Type 0} → i < p → (j < i → B) → x * p + j < y * p + i → Dec (x < y) → Dec (x ≡ y) → (x < y) ⊎ ((x ≡ y) × B)
+before-cases : (x y j i p : ℕ) {B : Type 0} → i < p → (j < i → B) → x * p + j < y * p + i → Dec (x < y) → Dec (x ≡ y)
+    → (x < y) ⊎ ((x ≡ y) × B)
 before-cases x y j i p hi go l (yes a) d = inl a
 before-cases x y j i p hi go l (no n) (yes e) = inr (e, go (omega (arith, ap (λ (m : ℕ). m * p) e)))
 before-cases x y j i p hi go l (no n) (no m) = absurd (let b : y < x = omega arith in omega (arith, mul-le-mul-right p b))
@@ -53,4 +54,5 @@ before-cases x y j i p hi go l (no n) (no m) = absurd (let b : y < x = omega ari
 pub before-join : (ks xs ys : List ℕ) → Within ks xs → Within ks ys → join ks xs < join ks ys → Before xs ys
 before-join [] [] [] hx hy l = omega arith
 before-join (k ∷ ks) (x ∷ xs) (y ∷ ys) hx hy l =
-    before-cases x y (join ks xs) (join ks ys) (2 ^ total ks) (join-lt ks ys (hy .1)) (before-join ks xs ys (hx .1) (hy .1)) l (decLt x y) (ℕ-discrete x y)
+    before-cases x y (join ks xs) (join ks ys) (2 ^ total ks) (join-lt ks ys (hy .1)) (before-join ks xs ys (hx .1) (hy .1)) l (decLt x y)
+    (ℕ-discrete x y)

@@ -1,4 +1,5 @@
--- Fields of a word compared with their limits all at once. Between two of them stands another that is masked out, so that each has room above
+-- Fields of a word compared with their limits all at once. Between two of them stands another that is masked out, so that each has room
+-- above
 -- it; each gains what its limit lacks of its width, and so one beyond its limit reaches into that room. Assumes nothing.
 use mathlib.Core.Path.{_≡_, refl, sym, ap, ap₂, subst, _∙_}
 use mathlib.Core.List.{List, [], _∷_}
@@ -47,7 +48,8 @@ WithinLimits b (x ∷ l) w = (fieldAt (size b l) (x .width) w ≤ x .limit) × W
 -- ---- sizes
 
 top-lt : {a r : ℕ} (g k p : ℕ) → a < 2 ^ k → r < 2 ^ p → a * 2 ^ p + r < 2 ^ (g + (k + p))
-top-lt g k p h l = rw (pow-add 2 g (k + p), pow-add 2 k p) (lt-of-lt-of-le (digits-lt h l) (omega (arith, mul-le-mul-right (2 ^ k * 2 ^ p) (pow-pos g))))
+top-lt g k p h l =
+    rw (pow-add 2 g (k + p), pow-add 2 k p) (lt-of-lt-of-le (digits-lt h l) (omega (arith, mul-le-mul-right (2 ^ k * 2 ^ p) (pow-pos g))))
 
 double : (k : ℕ) → 2 ^ suc k ≡ 2 * 2 ^ k
 double k = pow-suc 2 k ∙ omega arith
@@ -90,14 +92,16 @@ raised-lt p x w = add-lt-pow (x .width) (mod-lt (w / 2 ^ p) (pow-pos (x .width))
 
 gained-lt : (b : ℕ) (l : List Limited) (w : ℕ) → gained b l w < 2 ^ size b l
 gained-lt b [] w = rw (and-zero-r w) (pow-pos b)
-gained-lt b (x ∷ l) w = rw (gained-step b x l w) (top-lt (x .above) (suc (x .width)) (size b l) (raised-lt (size b l) x w) (gained-lt b l w))
+gained-lt b (x ∷ l) w =
+    rw (gained-step b x l w) (top-lt (x .above) (suc (x .width)) (size b l) (raised-lt (size b l) x w) (gained-lt b l w))
 
 -- ---- the bits beyond the limits
 
 abbrev pub beyond : ℕ → List Limited → ℕ → ℕ
 beyond b l w = bitAnd (bitAnd w (masks b l) + rooms b l) (overs b l)
 
-beyond-step : (b : ℕ) (x : Limited) (l : List Limited) (w : ℕ) → beyond b (x ∷ l) w ≡ bitAnd (raised (size b l) x w) (2 ^ x .width) * 2 ^ size b l + beyond b l w
+beyond-step : (b : ℕ) (x : Limited) (l : List Limited) (w : ℕ)
+    → beyond b (x ∷ l) w ≡ bitAnd (raised (size b l) x w) (2 ^ x .width) * 2 ^ size b l + beyond b l w
 beyond-step b x l w =
     ap (λ (n : ℕ). bitAnd n (overs b (x ∷ l))) (gained-step b x l w)
     ∙ and-block (size b l) (raised (size b l) x w) (2 ^ x .width) (gained b l w) (overs b l) (gained-lt b l w) (overs-lt b l)
@@ -124,15 +128,18 @@ beyond-within b (x ∷ l) w f e =
     let z : bitAnd (raised (size b l) x w) (2 ^ x .width) * 2 ^ size b l + beyond b l w ≡ 0 = sym (beyond-step b x l w) ∙ e in
     (at z (decLe (fieldAt (size b l) (x .width) w) (x .limit)), beyond-within b l w (f .1) (omega arith))
   where
-    at : bitAnd (raised (size b l) x w) (2 ^ x .width) * 2 ^ size b l + beyond b l w ≡ 0 → Dec (fieldAt (size b l) (x .width) w ≤ x .limit) → fieldAt (size b l) (x .width) w ≤ x .limit
+    at : bitAnd (raised (size b l) x w) (2 ^ x .width) * 2 ^ size b l + beyond b l w ≡ 0 → Dec (fieldAt (size b l) (x .width) w ≤ x .limit)
+        → fieldAt (size b l) (x .width) w ≤ x .limit
     at z (yes h) = h
     at z (no n) =
         let s = bit-set (raised (size b l) x w) (x .width) (omega (arith, f .0)) (raised-lt (size b l) x w) in
-        absurd (let y : 2 ^ x .width * 2 ^ size b l + beyond b l w ≡ 0 = ap (λ (m : ℕ). m * 2 ^ size b l + beyond b l w) (sym s) ∙ z in omega (arith, y, pow-pos (x .width + size b l), pow-add 2 (x .width) (size b l)))
+        absurd (let y : 2 ^ x .width * 2 ^ size b l + beyond b l w ≡ 0 = ap (λ (m : ℕ). m * 2 ^ size b l + beyond b l w) (sym s)
+        ∙ z in omega (arith, y, pow-pos (x .width + size b l), pow-add 2 (x .width) (size b l)))
 
 pub within-beyond : (b : ℕ) (l : List Limited) (w : ℕ) → Fits l → WithinLimits b l w → beyond b l w ≡ 0
 within-beyond b [] w f h = and-zero-r (bitAnd w 0 + 0)
 within-beyond b (x ∷ l) w f h =
     beyond-step b x l w
-    ∙ ap₂ (λ (a r : ℕ). a * 2 ^ size b l + r) (bit-clear (raised (size b l) x w) (x .width) (omega (arith, f .0, h .0))) (within-beyond b l w (f .1) (h .1))
+    ∙ ap₂ (λ (a r : ℕ). a * 2 ^ size b l + r) (bit-clear (raised (size b l) x w) (x .width) (omega (arith, f .0, h .0)))
+    (within-beyond b l w (f .1) (h .1))
     ∙ omega arith

@@ -1,5 +1,5 @@
 -- The laws of the packed word, each an instance of one over every list of widths. Assumes nothing.
-use mathlib.Core.Path.{_≡_, refl, sym, ap, subst, _∙_}
+use mathlib.Core.Path.{_≡_, refl, sym, ap, _∙_}
 use Prim.Native.Nat.{ℕ, _%_, _^_, _<_}
 use native.Mathlib.Nat.{mod-eq-of-lt}
 use native.Mathlib.Omega.{arith}
@@ -53,18 +53,10 @@ unpacked-is u =
       offset = record { 0 = u .offset i };
     }
 
--- what is read is what was put in: all the fields together, and each of them over the whole word
+-- what is read is what was put in: all the fields together
 pub unpack-pack : (f : Fields) → InRange f → fieldsOf (wordOf f) ≡ f
 unfolding fieldsOf wordOf
 unpack-pack f h = ap fromValues (parts-join widths (valuesOf f) h)
-
-pub each-field : (f : Fields) → InRange f → Unpacked (wordOf f) f
-each-field f h = subst (Unpacked (wordOf f)) (unpack-pack f h) (unpacked (wordOf f))
-
--- what is read fits its place
-pub in-range : (w : ℕ) → InRange (fieldsOf w)
-unfolding fieldsOf
-in-range w = omega arith
 
 -- a word whose low four bits are 0 is assembled again from what was read out of it
 pub pack-unpack : (w : ℕ) → w < 2 ^ 64 → w % 2 ^ 4 ≡ 0 → wordOf (fieldsOf w) ≡ w
@@ -82,10 +74,7 @@ pub word-low : (f : Fields) → InRange f → wordOf f % 2 ^ 4 ≡ 0
 unfolding wordOf
 word-low f h = omega arith
 
--- words with equal fields are equal, and fields with equal words
-pub word-inj : (v w : ℕ) → v < 2 ^ 64 → w < 2 ^ 64 → v % 2 ^ 4 ≡ 0 → w % 2 ^ 4 ≡ 0 → fieldsOf v ≡ fieldsOf w → v ≡ w
-word-inj v w hv hw zv zw e = sym (pack-unpack v hv zv) ∙ ap wordOf e ∙ pack-unpack w hw zw
-
+-- fields with equal words are equal
 pub fields-inj : (f g : Fields) → InRange f → InRange g → wordOf f ≡ wordOf g → f ≡ g
 fields-inj f g hf hg e = sym (unpack-pack f hf) ∙ ap fieldsOf e ∙ unpack-pack g hg
 

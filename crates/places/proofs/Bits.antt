@@ -10,7 +10,8 @@ use Rattle.places.proofs.Laws.{fewest, place-some, place-is}
 
 pow-mul : (k n : ℕ) → 2 ^ (k * n) ≡ (2 ^ k) ^ n
 pow-mul k zero = ap (λ (m : ℕ). 2 ^ m) (mul-zero k) ∙ sym (pow-zero (2 ^ k))
-pow-mul k (suc n) = ap (λ (m : ℕ). 2 ^ m) (mul-suc k n) ∙ pow-add 2 (k * n) k ∙ ap (λ (m : ℕ). m * 2 ^ k) (pow-mul k n) ∙ sym (pow-suc (2 ^ k) n)
+pow-mul k (suc n) =
+    ap (λ (m : ℕ). 2 ^ m) (mul-suc k n) ∙ pow-add 2 (k * n) k ∙ ap (λ (m : ℕ). m * 2 ^ k) (pow-mul k n) ∙ sym (pow-suc (2 ^ k) n)
 
 module _ (k : ℕ) (hk : 0 < k) where
   above : 1 < 2 ^ k
@@ -18,7 +19,13 @@ module _ (k : ℕ) (hk : 0 < k) where
 
   -- a number of n bits, 0 having none
   bits-places : (n v : ℕ) → v < 2 ^ n → 2 ^ n ≤ 2 * v + 1 → placeCount (2 ^ k) v ≡ suc ((n - 1) / k)
-  bits-places zero v h l = omega (arith, place-some (2 ^ k) above v, zero-div k, fewest (2 ^ k) above 1 v (omega arith) (omega (arith, one-le-pow 1 (2 ^ k) (pow-pos k))))
+  bits-places zero v h l =
+      omega (
+        arith,
+        place-some (2 ^ k) above v,
+        zero-div k,
+        fewest (2 ^ k) above 1 v (omega arith) (omega (arith, one-le-pow 1 (2 ^ k) (pow-pos k))),
+      )
   bits-places (suc c) v h l =
       let n = c / k in
       let r = mod-lt c hk in

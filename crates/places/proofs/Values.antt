@@ -2,7 +2,8 @@
 use mathlib.Core.Path.{_≡_, sym, ap, _∙_}
 use mathlib.Core.List.{List, [], _∷_, _++_, append-nil}
 use Prim.Native.Nat.{ℕ, suc, _+_, _*_, _^_, _≤_, _<_}
-use native.Mathlib.Nat.{pow-zero, pow-succ', add-zero, zero-add, mul-assoc, mul-one, one-le-pow, le-of-eq, le-trans, lt-of-lt-of-le, mul-le-mul-right, le-add-right, le-mul-of-pos-right}
+use native.Mathlib.Nat.{pow-zero, pow-succ', add-zero, zero-add, mul-assoc, mul-one, one-le-pow, le-of-eq, le-trans, lt-of-lt-of-le}
+use native.Mathlib.Nat.{mul-le-mul-right, le-add-right, le-mul-of-pos-right}
 use native.Mathlib.Omega.{arith}
 use lib.Arith.{digits-lt, digits-div, digits-mod}
 use lib.ListN.{length}
@@ -16,7 +17,8 @@ module _ (b : ℕ) where
   place-more k v d r h = rw (digits-div v h, digits-mod v h)
 
   -- a list of places is that of the number that they make
-  places-value : (k v : ℕ) (s t : List ℕ) → Below b s → placesOn b plain (k + length s) (valueFrom b plain v s) t ≡ placesOn b plain k v (s ++ t)
+  places-value : (k v : ℕ) (s t : List ℕ) → Below b s
+      → placesOn b plain (k + length s) (valueFrom b plain v s) t ≡ placesOn b plain k v (s ++ t)
   unfolding valueFrom
   places-value k v [] t h = ap (λ (n : ℕ). placesOn b plain n v t) (add-zero k)
   places-value k v (d ∷ r) t h =
@@ -46,7 +48,8 @@ module _ (b : ℕ) where
   value-below v [] h = lt-of-lt-of-le (omega arith) (le-of-eq (sym (ap (λ (x : ℕ). suc v * x) (pow-zero b) ∙ mul-one (suc v))))
   value-below v (d ∷ r) h =
       let p = b ^ length r in
-      let e : suc v * b * p ≡ suc v * b ^ suc (length r) = mul-assoc (suc v) b p ∙ ap (λ (x : ℕ). suc v * x) (sym (pow-succ' b (length r))) in
+      let e : suc v * b * p ≡ suc v * b ^ suc (length r) = mul-assoc (suc v) b p
+      ∙ ap (λ (x : ℕ). suc v * x) (sym (pow-succ' b (length r))) in
       let l : v * b + d < suc v * b = digits-lt {q = v} {m = suc v} (omega arith) (h 0) in
       lt-of-lt-of-le (value-below (v * b + d) r (λ i. h (suc i))) (le-trans (mul-le-mul-right p l) (le-of-eq e))
 

@@ -39,7 +39,9 @@ same s n t h = at (ℕ-discrete n 0) (ℕ-discrete (wordIn t) (wordIn s)) (ℕ-d
     at : Dec (n ≡ 0) → Dec (wordIn t ≡ wordIn s) → Dec (t .attoseconds ≡ s .attoseconds) → (n ≡ 0) × (t ≡ s)
     at (no k) w a = absurd (k (simp (ne-eqb n 0 k) at h))
     at (yes k) (no w) a = let z : pairRefused ≡ 0 = simp (k, ne-eqb (wordIn t) (wordIn s) w) at h in absurd (omega arith)
-    at (yes k) (yes w) (no a) = let z : pairRefused ≡ 0 = simp (k, eq-eqb (wordIn t) (wordIn s) w, ne-eqb (t .attoseconds) (s .attoseconds) a) at h in absurd (omega arith)
+    at (yes k) (yes w) (no a) =
+        let z : pairRefused ≡ 0 = simp (k, eq-eqb (wordIn t) (wordIn s) w, ne-eqb (t .attoseconds) (s .attoseconds) a) at h in
+        absurd (omega arith)
     at (yes k) (yes w) (yes a) = (k, λ i. packedPair (w i) (a i))
 
 -- where it answers 0 the timestamp is an accepted one

@@ -11,7 +11,8 @@ use Rattle.ion.specs.Pair.Offset.{WithinDay, rawOf, offsetOf}
 use Rattle.ion.specs.Pair.Word.{wordOf}
 use Rattle.ion.specs.Pair.Pair.{packedPair}
 use Rattle.ion.specs.Pair.Fraction.{scale}
-use Rattle.ion.specs.Calls.Build.{precisionNumber, firstOf, rangeChecks, isYear, isDay, offsetGiven, routeChecks, localChecks, givenTime, localTime, pairAt, acceptedBuild, buildAnswer, buildNumber, buildPair, buildOf}
+use Rattle.ion.specs.Calls.Build.{precisionNumber, firstOf, rangeChecks, isYear, isDay, offsetGiven, routeChecks, localChecks, givenTime}
+use Rattle.ion.specs.Calls.Build.{localTime, pairAt, acceptedBuild, buildAnswer, buildNumber, buildPair, buildOf}
 use Rattle.ion.specs.Calls.Check.{precisionOf, fromLocal, offsetAt, givenAt, fractionAt, rebuilt}
 use Rattle.ion.specs.Calls.Accepted.{InBounds, Staged, Valid, dateIn}
 use Rattle.ion.specs.declared.Fields.{Fields}

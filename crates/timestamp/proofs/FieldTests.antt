@@ -22,7 +22,8 @@ use Rattle.timestamp.proofs.Accepts.{check-gives, check-zero}
 
 abbrev pub boundsTest : Fields → Bool
 boundsTest f =
-    leb 1 (f .year) && leb (f .year) 9999 && leb (f .hour) 23 && leb (f .minute) 59 && leb (f .second) 59 && leb (f .precision) 4 && leb (f .digits) 18
+    leb 1 (f .year) && leb (f .year) 9999 && leb (f .hour) 23 && leb (f .minute) 59 && leb (f .second) 59 && leb (f .precision) 4 && leb
+    (f .digits) 18
     && ltb (f .offset .0) 2880
 
 abbrev pub firstTest : Fields → Bool
@@ -38,7 +39,8 @@ validTest f a = boundsTest f && firstTest f && ltb a (10 ^ 18) && isDate (dateIn
 -- each test with the fact that it decides, in that order
 abbrev pub Bounds : Fields → Type 0
 Bounds f =
-    (((((((1 ≤ f .year) × (f .year ≤ 9999)) × (f .hour ≤ 23)) × (f .minute ≤ 59)) × (f .second ≤ 59)) × (f .precision ≤ 4)) × (f .digits ≤ 18))
+    (((((((1 ≤ f .year) × (f .year ≤ 9999)) × (f .hour ≤ 23)) × (f .minute ≤ 59)) × (f .second ≤ 59)) × (f .precision ≤ 4)) ×
+    (f .digits ≤ 18))
     × (f .offset .0 < 2880)
 
 abbrev First : Fields → Type 0
@@ -111,7 +113,8 @@ valid-decides f a =
 -- ---- the check
 
 -- a word of 64 bits whose low four are 0
-pub accepted-decides : (s : Timestamp) → wordIn s < 2 ^ 64 → wordIn s % 16 ≡ 0 → Decides (eqb (checkOf s .number) 0) (Valid (fieldsOf (wordIn s)) (s .attoseconds))
+pub accepted-decides : (s : Timestamp) → wordIn s < 2 ^ 64 → wordIn s % 16 ≡ 0
+    → Decides (eqb (checkOf s .number) 0) (Valid (fieldsOf (wordIn s)) (s .attoseconds))
 accepted-decides s h z = (
   λ t. check-gives s (eqb-true (checkOf s .number) 0 t) .fields,
   λ v. eq-eqb (checkOf s .number) 0 (check-zero s (record { fields = v; reserved = z; fits = h })),

@@ -15,6 +15,7 @@ unfolding checkOf
 check-digits s h = simp (lt-ltb 18 (fieldsOf (wordIn s) .digits) h)
 
 -- else the pair is compared with what is built of the fields that the precision has
-pub check-built : (s : Timestamp) → fieldsOf (wordIn s) .digits ≤ 18 → checkOf s ≡ sameAs s (buildOf (rebuilt (fieldsOf (wordIn s)) (s .attoseconds)))
+pub check-built : (s : Timestamp) → fieldsOf (wordIn s) .digits ≤ 18
+    → checkOf s ≡ sameAs s (buildOf (rebuilt (fieldsOf (wordIn s)) (s .attoseconds)))
 unfolding checkOf
 check-built s h = simp (le-ltb 18 (fieldsOf (wordIn s) .digits) h)

@@ -9,7 +9,8 @@ use Rattle.ion.specs.Pair.Offset.{WithinDay, rawOf, offsetOf}
 use Rattle.ion.specs.Pair.Word.{InRange, wordOf, fieldsOf}
 use Rattle.ion.specs.Pair.Pair.{wordIn, packedPair}
 use Rattle.ion.specs.Pair.Fraction.{scale}
-use Rattle.ion.specs.Calls.Build.{precisionNumber, rangeChecks, offsetGiven, routeChecks, givenTime, localTime, packedOf, buildNumber, buildPair}
+use Rattle.ion.specs.Calls.Build.{precisionNumber, rangeChecks, offsetGiven, routeChecks, givenTime, localTime, packedOf, buildNumber}
+use Rattle.ion.specs.Calls.Build.{buildPair}
 use Rattle.ion.specs.Calls.Accepted.{Staged, Valid, Accepted, dateIn, timeIn}
 use Rattle.ion.specs.declared.DateTime.{DateTime}
 use Rattle.ion.specs.declared.Fields.{Fields}
@@ -21,7 +22,7 @@ use Rattle.ion.proofs.Offsets.{raw-lt, back-within}
 use Rattle.packed.proofs.Words.{unpack-pack, pack-unpack, word-lt, word-low}
 use Rattle.builder.proofs.Checks.{zero-pass, pass-left, pass-right, numbered-append}
 use Rattle.builder.proofs.Bounds.{in-bounds, precision-le}
-use Rattle.builder.proofs.Routes.{ranges-numbered, route-numbered}
+use Rattle.builder.proofs.Routed.{ranges-numbered, route-numbered}
 use Rattle.builder.proofs.Times.{local-is}
 
 -- ---- what the builder gives
@@ -30,7 +31,8 @@ use Rattle.builder.proofs.Times.{local-is}
 unmoved : (b : BuilderFields) → Staged b → precisionNumber (b .precision) < 3 → localTime b (b .offset) ≡ givenTime b
 unmoved b s k = ap (localTime b) (s .offset k)
 
-pub build-valid : (b : BuilderFields) → Staged b → buildNumber b ≡ 0 → Valid (packedOf b (localTime b (b .offset)) (offsetGiven (b .offset))) (b .attoseconds)
+pub build-valid : (b : BuilderFields) → Staged b → buildNumber b ≡ 0
+    → Valid (packedOf b (localTime b (b .offset)) (offsetGiven (b .offset))) (b .attoseconds)
 unfolding buildNumber
 build-valid b s e =
     let r = routeChecks b (b .offset) in
@@ -62,7 +64,18 @@ build-valid b s e =
 
 pub valid-in-range : {f : Fields} {a : ℕ} → Valid f a → InRange f
 valid-in-range {f} v =
-    omega (arith, v .to-year, month-of (dateIn f) (v .date), day-of (dateIn f) (v .date), v .hour, v .minute, v .second, v .precision, v .digits, v .offset)
+    omega (
+      arith,
+      v .to-year,
+      month-of (dateIn f) (v .date),
+      day-of (dateIn f) (v .date),
+      v .hour,
+      v .minute,
+      v .second,
+      v .precision,
+      v .digits,
+      v .offset,
+    )
 
 -- the date and the time to the minute, and the offset
 pub valid-time : {f : Fields} {a : ℕ} → Valid f a → IsDateTime (timeIn f)

@@ -13,11 +13,13 @@ use Rattle.timestamp.proofs.FieldTests.{Bounds}
 
 -- hour, second and digits
 abbrev pub masked : List Limited
-masked = record { above = 0; width = 5; limit = 23 } ∷ record { above = 5; width = 6; limit = 59 } ∷ record { above = 2; width = 5; limit = 18 } ∷ []
+masked =
+    record { above = 0; width = 5; limit = 23 } ∷ record { above = 5; width = 6; limit = 59 } ∷ record { above = 2; width = 5; limit = 18 } ∷ []
 
 -- minute, precision and offset
 abbrev pub others : List Limited
-others = record { above = 0; width = 6; limit = 59 } ∷ record { above = 5; width = 3; limit = 4 } ∷ record { above = 4; width = 12; limit = 2879 } ∷ []
+others =
+    record { above = 0; width = 6; limit = 59 } ∷ record { above = 5; width = 3; limit = 4 } ∷ record { above = 4; width = 12; limit = 2879 } ∷ []
 
 masked-fits : Fits masked
 masked-fits = (lit< tt, (lit< tt, (lit< tt, tt)))
@@ -52,8 +54,10 @@ word-decides w h =
           d .1 (
             (
               (omega (arith, u .year, b .0 .0 .0 .0 .0 .0 .0), omega (arith, u .year, h, b .0 .0 .0 .0 .0 .0 .1)),
-              within-beyond 16 masked w masked-fits (omega (arith, u .hour, b .0 .0 .0 .0 .0 .1), (omega (arith, u .second, b .0 .0 .0 .1), (omega (arith, u .digits, b .0 .1), tt))),
+              within-beyond 16 masked w masked-fits
+                  (omega (arith, u .hour, b .0 .0 .0 .0 .0 .1), (omega (arith, u .second, b .0 .0 .0 .1), (omega (arith, u .digits, b .0 .1), tt))),
             ),
-            within-beyond 4 others w others-fits (omega (arith, u .minute, b .0 .0 .0 .0 .1), (omega (arith, u .precision, b .0 .0 .1), (omega (arith, u .offset, b .1), tt))),
+            within-beyond 4 others w others-fits
+                (omega (arith, u .minute, b .0 .0 .0 .0 .1), (omega (arith, u .precision, b .0 .0 .1), (omega (arith, u .offset, b .1), tt))),
           ),
     )

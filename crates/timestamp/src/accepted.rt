@@ -4,6 +4,20 @@ use ion::Date;
 use ion::Fields;
 use ion::MAX_ATTOSECONDS;
 use ion::Timestamp;
+use packed::HOUR_MASK;
+use packed::HOUR_SHIFT;
+use packed::MINUTE_MASK;
+use packed::MINUTE_SHIFT;
+use packed::OFFSET_MASK;
+use packed::OFFSET_SHIFT;
+use packed::PRECISION_MASK;
+use packed::PRECISION_SHIFT;
+use packed::RESERVED_BITS;
+use packed::SECOND_MASK;
+use packed::SECOND_SHIFT;
+use packed::SUBSECOND_PRECISION_MASK;
+use packed::SUBSECOND_PRECISION_SHIFT;
+use packed::YEAR_SHIFT;
 ghost use mathlib.Core.Path.{_≡_};
 ghost use mathlib.Core.Bool.{true, _&&_, _||_};
 ghost use Prim.Native.Nat.{_+_, _%_, _^_, _<_};
@@ -15,27 +29,41 @@ ghost use Rattle.ion.specs.Calls.Check.{checkNumber};
 ghost use Rattle.ion.specs.Calls.Accepted.{Valid};
 
 // Hour, second and digits: another field stands above each.
-const MASKS: u64 = (31 << 36) | (63 << 24) | (31 << 16);
+const MASKS: u64 = (HOUR_MASK << HOUR_SHIFT)
+    | (SECOND_MASK << SECOND_SHIFT)
+    | (SUBSECOND_PRECISION_MASK << SUBSECOND_PRECISION_SHIFT);
 
 // What the largest value of each lacks of its width, so that one beyond it reaches the bit above.
-const ROOMS: u64 = (8 << 36) | (4 << 24) | (13 << 16);
+const SPARES: u64 = ((HOUR_MASK - 23) << HOUR_SHIFT)
+    | ((SECOND_MASK - 59) << SECOND_SHIFT)
+    | ((SUBSECOND_PRECISION_MASK - 18) << SUBSECOND_PRECISION_SHIFT);
 
 // These bits.
-const OVERS: u64 = (32 << 36) | (64 << 24) | (32 << 16);
+const BITS_ABOVE: u64 = ((HOUR_MASK + 1) << HOUR_SHIFT)
+    | ((SECOND_MASK + 1) << SECOND_SHIFT)
+    | ((SUBSECOND_PRECISION_MASK + 1) << SUBSECOND_PRECISION_SHIFT);
 
 // The same of minute, precision and offset.
-const OTHER_MASKS: u64 = (63 << 30) | (7 << 21) | (4095 << 4);
+const OTHER_MASKS: u64 = (MINUTE_MASK << MINUTE_SHIFT)
+    | (PRECISION_MASK << PRECISION_SHIFT)
+    | (OFFSET_MASK << OFFSET_SHIFT);
 
-const OTHER_ROOMS: u64 = (4 << 30) | (3 << 21) | (1216 << 4);
+const OTHER_SPARES: u64 = ((MINUTE_MASK - 59) << MINUTE_SHIFT)
+    | ((PRECISION_MASK - 4) << PRECISION_SHIFT)
+    | ((OFFSET_MASK - 2879) << OFFSET_SHIFT);
 
-const OTHER_OVERS: u64 = (64 << 30) | (8 << 21) | (4096 << 4);
+const OTHER_BITS_ABOVE: u64 = ((MINUTE_MASK + 1) << MINUTE_SHIFT)
+    | ((PRECISION_MASK + 1) << PRECISION_SHIFT)
+    | ((OFFSET_MASK + 1) << OFFSET_SHIFT);
+
+const RESERVED: u64 = 1 << RESERVED_BITS;
 
 // Whether no field of the masks reaches the bit above it.
-fn none_beyond(w: u64, masks: u64, rooms: u64, overs: u64) -> bool
-    requires { ⌜ masks + rooms < 2 ^ 64 ⌝ }
-    ensures { λ r. ⌜ r ≡ eqb (bitAnd (bitAnd w masks + rooms) overs) 0 ⌝ }
+fn none_beyond(w: u64, masks: u64, spares: u64, above: u64) -> bool
+    requires { ⌜ masks + spares < 2 ^ 64 ⌝ }
+    ensures { λ r. ⌜ r ≡ eqb (bitAnd (bitAnd w masks + spares) above) 0 ⌝ }
 {
-    ((w & masks) + rooms) & overs == 0
+    ((w & masks) + spares) & above == 0
 }
 
 // Whether each field but the month and the day is in its bounds; the fields of a mask are tested all at once.
@@ -44,10 +72,10 @@ fn in_bounds(w: u64) -> bool
         && leb (fieldsOf w .hour) 23 && leb (fieldsOf w .minute) 59 && leb (fieldsOf w .second) 59
         && leb (fieldsOf w .precision) 4 && leb (fieldsOf w .digits) 18 && ltb (fieldsOf w .offset .0) 2880) ⌝ }
 {
-    (1 << 50 <= w)
-        & (w < 10_000 << 50)
-        & none_beyond(w, MASKS, ROOMS, OVERS)
-        & none_beyond(w, OTHER_MASKS, OTHER_ROOMS, OTHER_OVERS)
+    (1 << YEAR_SHIFT <= w)
+        & (w < 10_000 << YEAR_SHIFT)
+        & none_beyond(w, MASKS, SPARES, BITS_ABOVE)
+        & none_beyond(w, OTHER_MASKS, OTHER_SPARES, OTHER_BITS_ABOVE)
 }
 
 // Whether each field that the precision does not have has its first value.
@@ -114,7 +142,7 @@ pub fn is_accepted(s: Timestamp) -> bool
     ensures { λ r. ⌜ r ≡ eqb (checkNumber s) 0 ⌝ }
 {
     let word = s.packed_fields;
-    if word % 16 != 0 {
+    if word % RESERVED != 0 {
         return false;
     }
     is_valid(word, s.attoseconds)

@@ -10,7 +10,8 @@ returns : tie.Need-returns
 returns c =
     let a = c .before .before .before .args in
     c .with-day .ensures
-    ∙ ap (λ (f : BuilderFields). withDay f (a .day)) (c .before .with-month .ensures ∙ ap (λ (f : BuilderFields). withMonth f (a .month)) (c .before .before .with-year .ensures))
+    ∙ ap (λ (f : BuilderFields). withDay f (a .day))
+    (c .before .with-month .ensures ∙ ap (λ (f : BuilderFields). withMonth f (a .month)) (c .before .before .with-year .ensures))
 
 pub with-ymd-spec : {M : Type 1} → statement M
 with-ymd-spec = tie.close (tie.spec (λ c κs. search needs) (λ c κs. search needs) (λ c κs. search needs) returns)

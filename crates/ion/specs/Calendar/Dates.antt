@@ -64,7 +64,8 @@ Earlier s t = (s .year < t .year) ⊎ ((s .year ≡ t .year) × ((s .month < t .
 abbrev pub nextDay : Date → Date
 nextDay t =
     cond (ltb (t .day) (monthLength (t .year) (t .month))) (record { year = t .year; month = t .month; day = t .day + 1 })
-    (cond (ltb (t .month) 12) (record { year = t .year; month = t .month + 1; day = 1 }) (record { year = t .year + 1; month = 1; day = 1 }))
+    (cond (ltb (t .month) 12) (record { year = t .year; month = t .month + 1; day = 1 })
+    (record { year = t .year + 1; month = 1; day = 1 }))
 
 abbrev pub prevDay : Date → Date
 prevDay t =

@@ -43,16 +43,19 @@ abbrev pub withHour : BuilderFields → ℕ → BuilderFields
 withHour f h = builderFields HourAndMinute (f .offset) (f .year) (f .month) (f .day) h (f .minute) (f .second) (f .attoseconds) (f .digits)
 
 abbrev pub withHourAndMinute : BuilderFields → ℕ → ℕ → BuilderFields
-withHourAndMinute f h mi = builderFields HourAndMinute (f .offset) (f .year) (f .month) (f .day) h mi (f .second) (f .attoseconds) (f .digits)
+withHourAndMinute f h mi =
+    builderFields HourAndMinute (f .offset) (f .year) (f .month) (f .day) h mi (f .second) (f .attoseconds) (f .digits)
 
 abbrev pub withMinute : BuilderFields → ℕ → BuilderFields
-withMinute f mi = builderFields HourAndMinute (f .offset) (f .year) (f .month) (f .day) (f .hour) mi (f .second) (f .attoseconds) (f .digits)
+withMinute f mi =
+    builderFields HourAndMinute (f .offset) (f .year) (f .month) (f .day) (f .hour) mi (f .second) (f .attoseconds) (f .digits)
 
 abbrev pub withSecond : BuilderFields → ℕ → BuilderFields
 withSecond f s = builderFields Second (f .offset) (f .year) (f .month) (f .day) (f .hour) (f .minute) s (f .attoseconds) (f .digits)
 
 abbrev pub withFraction : BuilderFields → Fraction → BuilderFields
-withFraction f x = builderFields (f .precision) (f .offset) (f .year) (f .month) (f .day) (f .hour) (f .minute) (f .second) (x .attoseconds) (x .digits)
+withFraction f x =
+    builderFields (f .precision) (f .offset) (f .year) (f .month) (f .day) (f .hour) (f .minute) (f .second) (x .attoseconds) (x .digits)
 
 abbrev pub withOffset : BuilderFields → BuilderOffset → BuilderFields
 withOffset f o = builderFields (f .precision) o (f .year) (f .month) (f .day) (f .hour) (f .minute) (f .second) (f .attoseconds) (f .digits)

@@ -38,7 +38,8 @@ loop-again c =
     let s = c .before .before .before in (
       search needs,
       search needs,
-      paste-next (s .args .buf .now) (l .buf) (s .args .at) (s .args .src .now) (l .j) _ (s .pre) (c .before .loop-test .taken) (l .inv .2) refl,
+      paste-next (s .args .buf .now) (l .buf) (s .args .at) (s .args .src .now) (l .j) _ (s .pre) (c .before .loop-test .taken)
+          (l .inv .2) refl,
     )
 
 same-length : tie.Need-same-length Inv-loop μ-loop

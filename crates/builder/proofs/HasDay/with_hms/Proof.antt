@@ -7,7 +7,9 @@ use Rattle.builder.proofs.HasDay.with_hms.Statement.{statement}
 use Rattle.builder.proofs.HasDay.with_hms.Tie as tie
 
 returns : tie.Need-returns
-returns c = c .with-second .ensures ∙ ap (λ (f : BuilderFields). withSecond f (c .before .before .args .second)) (c .before .with-hour-and-minute .ensures)
+returns c =
+    c .with-second .ensures
+    ∙ ap (λ (f : BuilderFields). withSecond f (c .before .before .args .second)) (c .before .with-hour-and-minute .ensures)
 
 pub with-hms-spec : {M : Type 1} → statement M
 with-hms-spec = tie.close (tie.spec (λ c κs. search needs) (λ c κs. search needs) returns)

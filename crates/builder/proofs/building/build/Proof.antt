@@ -7,7 +7,7 @@ use Rattle.ion.specs.Calls.Accepted.{InBounds}
 use Rattle.ion.specs.declared.offset.Offset.{Offset}
 use Rattle.builder.proofs.Checks.{AllPass}
 use Rattle.builder.proofs.Bounds.{in-bounds}
-use Rattle.builder.proofs.Routes.{ranges-pass, routed-local, routed-utc, within-utc, build-routed, build-refused}
+use Rattle.builder.proofs.Routed.{ranges-pass, routed-local, routed-utc, within-utc, build-routed, build-refused}
 use Rattle.builder.proofs.building.build.Statement.{statement}
 use Rattle.builder.proofs.building.build.Tie as tie
 
@@ -28,14 +28,17 @@ within : (c : tie.Else1) → WithinDay (offsetGiven (c .before .before .args .f 
 within c = bounds c .offset
 
 -- the minutes of an offset that moves UTC fields
-minutes : (c : tie.After-minutes-of) → c .minutes-of .result ≡ offsetMinutes (minutesOf (offsetGiven (c .before .before .before .before .before .before .args .f .offset)))
+minutes : (c : tie.After-minutes-of)
+    → c .minutes-of .result ≡ offsetMinutes (minutesOf (offsetGiven (c .before .before .before .before .before .before .args .f .offset)))
 minutes c = c .minutes-of .ensures ∙ ap (λ (o : Offset). offsetMinutes (minutesOf o)) (c .before .before .before .offset-given .ensures)
 
 from-utc-fields-requires : tie.Need-from-utc-fields-requires
 from-utc-fields-requires c κs =
     let a = c .before .before in
-    let e1 = a .before .before in
-    (bounds e1, within-utc (e1 .before .before .args .f .offset) (sym (a .is-utc .ensures) ∙ c .before .if2 .taken) (within e1) (c .minutes-of .result) (minutes c))
+    let e1 = a .before .before in (
+      bounds e1,
+      within-utc (e1 .before .before .args .f .offset) (sym (a .is-utc .ensures) ∙ c .before .if2 .taken) (within e1) (c .minutes-of .result) (minutes c),
+    )
 
 returns-2 : tie.Need-returns-2
 returns-2 c =
@@ -43,7 +46,9 @@ returns-2 c =
     let e1 = a .before .before in
     let f = e1 .before .before .args .f in
     c .from-utc-fields .ensures
-    ∙ sym (build-routed f (passed e1) ∙ routed-utc f (f .offset) (sym (a .is-utc .ensures) ∙ c .before .before .if2 .taken) (c .before .minutes-of .result) (minutes (c .before)))
+    ∙ sym
+    (build-routed f (passed e1)
+    ∙ routed-utc f (f .offset) (sym (a .is-utc .ensures) ∙ c .before .before .if2 .taken) (c .before .minutes-of .result) (minutes (c .before)))
 
 from-fields-requires : tie.Need-from-fields-requires
 from-fields-requires c κs =

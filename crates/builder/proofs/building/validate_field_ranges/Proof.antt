@@ -12,12 +12,14 @@ returns c = simp (le-leb _ _ (c .if1 .taken))
 
 returns-9 : tie.Need-returns-9
 returns-9 c =
-    let h : offsetOutside (c .before .before .before .before .before .before .before .before .before .before .args .f .offset) ≡ true = sym (c .before .offset-outside .ensures) ∙ c .if9 .taken in
+    let h : offsetOutside (c .before .before .before .before .before .before .before .before .before .before .args .f .offset) ≡ true = sym (c .before .offset-outside .ensures)
+    ∙ c .if9 .taken in
     search (le-ltb, lt-leb, h)
 
 returns-10 : tie.Need-returns-10
 returns-10 c =
-    let h : offsetOutside (c .before .before .before .before .before .before .before .before .before .before .args .f .offset) ≡ false = sym (c .before .offset-outside .ensures) ∙ c .if9 .left in
+    let h : offsetOutside (c .before .before .before .before .before .before .before .before .before .before .args .f .offset) ≡ false = sym (c .before .offset-outside .ensures)
+    ∙ c .if9 .left in
     search (le-ltb, lt-leb, h)
 
 pub validate-field-ranges-spec : {M : Type 1} → statement M

@@ -9,7 +9,9 @@ use Rattle.builder.proofs.offset.from_local.Statement.{statement}
 use Rattle.builder.proofs.offset.from_local.Tie as tie
 
 returns : tie.Need-returns
-returns c = ap (λ (m : OffsetMinutes). withOffset (c .before .args .fields) (FromLocalFields m)) (simp (toZ-ofZ (c .before .fits .minutes)) at (c .new .ensures))
+returns c =
+    ap (λ (m : OffsetMinutes). withOffset (c .before .args .fields) (FromLocalFields m))
+    (simp (toZ-ofZ (c .before .fits .minutes)) at (c .new .ensures))
 
 pub from-local-spec : {M : Type 1} → statement M
 from-local-spec = tie.close (tie.spec (λ c κs. search needs) returns)

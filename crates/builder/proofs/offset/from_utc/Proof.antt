@@ -9,7 +9,9 @@ use Rattle.builder.proofs.offset.from_utc.Statement.{statement}
 use Rattle.builder.proofs.offset.from_utc.Tie as tie
 
 returns : tie.Need-returns
-returns c = ap (λ (m : OffsetMinutes). withOffset (c .before .args .fields) (FromUtcFields m)) (simp (toZ-ofZ (c .before .fits .minutes)) at (c .new .ensures))
+returns c =
+    ap (λ (m : OffsetMinutes). withOffset (c .before .args .fields) (FromUtcFields m))
+    (simp (toZ-ofZ (c .before .fits .minutes)) at (c .new .ensures))
 
 pub from-utc-spec : {M : Type 1} → statement M
 from-utc-spec = tie.close (tie.spec (λ c κs. search needs) returns)

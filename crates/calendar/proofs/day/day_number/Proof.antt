@@ -22,4 +22,6 @@ add-result-2 c =
 
 pub day-number-spec : {M : Type 1} → statement M
 day-number-spec =
-    tie.close (tie.spec (λ c κs. search needs) month-start-requires add-result (λ c. search needs) (λ c. search needs) add-result-2 (λ c. search needs))
+    tie.close
+    (tie.spec (λ c κs. search needs) month-start-requires add-result (λ c. search needs) (λ c. search needs) add-result-2
+    (λ c. search needs))

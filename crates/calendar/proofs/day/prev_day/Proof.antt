@@ -34,4 +34,6 @@ returns-4 c =
 
 pub prev-day-spec : {M : Type 1} → statement M
 prev-day-spec =
-    tie.close (tie.spec (λ c. search needs) returns (λ c. search needs) (λ c κs. search needs) (λ c. search needs) returns-2 returns-3 (λ c. search needs) returns-4)
+    tie.close
+    (tie.spec (λ c. search needs) returns (λ c. search needs) (λ c κs. search needs) (λ c. search needs) returns-2 returns-3
+    (λ c. search needs) returns-4)

@@ -19,4 +19,5 @@ closed y = omega (arith, year-start y, four-hundreds y)
 pub year-start-spec : {M : Type 1} → statement M
 year-start-spec =
     tie.close
-    (tie.spec (λ c. search needs) (λ c. search needs) (λ c. search needs) (λ c. search needs) (λ c. search needs) (λ c. search needs) (λ c. search needs) (λ c. closed (c .args .year)))
+    (tie.spec (λ c. search needs) (λ c. search needs) (λ c. search needs) (λ c. search needs) (λ c. search needs) (λ c. search needs)
+    (λ c. search needs) (λ c. closed (c .args .year)))

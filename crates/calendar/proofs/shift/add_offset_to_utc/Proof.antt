@@ -95,9 +95,12 @@ cast-time : tie.Need-cast-time
 cast-time c = rw (total (c .before .before)) (within c .0, record { fits = omega (arith, within c .1) })
 
 returns-3 : tie.Need-returns-3
-returns-3 c = let b = c .before .before in rw (total b) (same-day (b .before .before .before .args .t) (pos (time b) +ℤ offset b) (within c .0) (within c .1))
+returns-3 c =
+    let b = c .before .before in
+    rw (total b) (same-day (b .before .before .before .args .t) (pos (time b) +ℤ offset b) (within c .0) (within c .1))
 
 pub add-offset-to-utc-spec : {M : Type 1} → statement M
 add-offset-to-utc-spec =
     tie.close
-    (tie.spec (λ c. search needs) (λ c. search needs) (λ c. search needs) (λ c κs. search needs) add-total-2 from-midnight-requires returns from-midnight-requires-2 returns-2 cast-time returns-3)
+    (tie.spec (λ c. search needs) (λ c. search needs) (λ c. search needs) (λ c κs. search needs) add-total-2 from-midnight-requires returns
+    from-midnight-requires-2 returns-2 cast-time returns-3)

@@ -9,7 +9,8 @@ use mir.Syntax.{w32}
 use mir.Val.{SFits}
 use mir.Facts.{toZ-ofZ}
 use Rattle.integers.specs.Floor.{floorDiv}
-use Rattle.integers.proofs.Parts.{apart, rem-fits, quot-fits, parts-eq, parts-fit, fit-parts, sub-parts, quot-parts, rem-parts, floor-div-parts, lt-parts, ge-parts}
+use Rattle.integers.proofs.Parts.{apart, rem-fits, quot-fits, parts-eq, parts-fit, fit-parts, sub-parts, quot-parts, rem-parts}
+use Rattle.integers.proofs.Parts.{floor-div-parts, lt-parts, ge-parts}
 use Rattle.calendar.proofs.shift.floor_days.Statement.{statement}
 use Rattle.calendar.proofs.shift.floor_days.Tie as tie
 
@@ -31,12 +32,14 @@ module _ (m : ℤ) (f : SFits w32 m) where
   below h =
       let q = quotZ m (pos 1440) in
       parts-eq (q -ℤ pos 1) (floorDiv m 1440)
-      (omega (arith, sub-parts q (pos 1), quot-parts m 1440, rem-parts m 1440, floor-div-parts m 1440 (lit< tt), lt-parts (remZ m (pos 1440)) (pos 0) h, apart m))
+      (omega
+      (arith, sub-parts q (pos 1), quot-parts m 1440, rem-parts m 1440, floor-div-parts m 1440 (lit< tt), lt-parts (remZ m (pos 1440)) (pos 0) h, apart m))
 
   not-below : ltZ (remZ m (pos 1440)) (pos 0) ≡ false → quotZ m (pos 1440) ≡ floorDiv m 1440
   not-below h =
       parts-eq (quotZ m (pos 1440)) (floorDiv m 1440)
-      (omega (arith, quot-parts m 1440, rem-parts m 1440, floor-div-parts m 1440 (lit< tt), ge-parts (remZ m (pos 1440)) (pos 0) h, apart m))
+      (omega
+      (arith, quot-parts m 1440, rem-parts m 1440, floor-div-parts m 1440 (lit< tt), ge-parts (remZ m (pos 1440)) (pos 0) h, apart m))
 
 sub-result : tie.Need-sub-result
 sub-result c =

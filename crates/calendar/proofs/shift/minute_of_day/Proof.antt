@@ -8,7 +8,8 @@ use lib.Signed.{remZ, ltZ}
 use mir.Syntax.{w32}
 use mir.Facts.{toZ-ofZ}
 use Rattle.integers.specs.Floor.{floorMod}
-use Rattle.integers.proofs.Parts.{IsNatural, to-unsigned, may-cast, natural-fits, apart, quot-fits, rem-fits, add-parts, rem-parts, floor-parts, floor-mod-lt, lt-parts, ge-parts}
+use Rattle.integers.proofs.Parts.{IsNatural, to-unsigned, may-cast, natural-fits, apart, quot-fits, rem-fits, add-parts, rem-parts}
+use Rattle.integers.proofs.Parts.{floor-parts, floor-mod-lt, lt-parts, ge-parts}
 use Rattle.calendar.proofs.shift.minute_of_day.Statement.{statement}
 use Rattle.calendar.proofs.shift.minute_of_day.Tie as tie
 
@@ -16,11 +17,27 @@ use Rattle.calendar.proofs.shift.minute_of_day.Tie as tie
 moved : (m : ℤ) → ltZ (remZ m (pos 1440)) (pos 0) ≡ true → IsNatural (remZ m (pos 1440) +ℤ pos 1440) (floorMod m 1440)
 moved m h =
     let r = remZ m (pos 1440) in
-    omega (arith, add-parts r (pos 1440), apart (r +ℤ pos 1440), apart m, rem-parts m 1440, lt-parts r (pos 0) h, floor-parts m 1440 (lit< tt), floor-mod-lt m 1440 (lit< tt))
+    omega (
+      arith,
+      add-parts r (pos 1440),
+      apart (r +ℤ pos 1440),
+      apart m,
+      rem-parts m 1440,
+      lt-parts r (pos 0) h,
+      floor-parts m 1440 (lit< tt),
+      floor-mod-lt m 1440 (lit< tt),
+    )
 
 kept : (m : ℤ) → ltZ (remZ m (pos 1440)) (pos 0) ≡ false → IsNatural (remZ m (pos 1440)) (floorMod m 1440)
 kept m h =
-    omega (arith, apart m, rem-parts m 1440, ge-parts (remZ m (pos 1440)) (pos 0) h, floor-parts m 1440 (lit< tt), floor-mod-lt m 1440 (lit< tt))
+    omega (
+      arith,
+      apart m,
+      rem-parts m 1440,
+      ge-parts (remZ m (pos 1440)) (pos 0) h,
+      floor-parts m 1440 (lit< tt),
+      floor-mod-lt m 1440 (lit< tt),
+    )
 
 rem-rest : tie.Need-rem-rest
 rem-rest c =

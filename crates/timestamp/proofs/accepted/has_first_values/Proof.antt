@@ -16,7 +16,8 @@ returns-2 : tie.Need-returns-2
 returns-2 c =
     let e1 = c .before .before .before .before .before .before .before .before .before .before .before in
     let p = e1 .before .before .args .f .precision in
-    rw (c .before .before .before .before .before .before .before .before .before .bits .ensures) (simp (lt-leb 4 p (omega (arith, e1 .if1 .left))))
+    rw (c .before .before .before .before .before .before .before .before .before .bits .ensures)
+    (simp (lt-leb 4 p (omega (arith, e1 .if1 .left))))
 
 pub has-first-values-spec : {M : Type 1} → statement M
 has-first-values-spec = tie.close (tie.spec returns (λ c κs. search needs) returns-2)

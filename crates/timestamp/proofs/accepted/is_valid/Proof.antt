@@ -36,7 +36,9 @@ returns c =
     let s = c .before .before in
     let f = fieldsIn s in
     let a = s .args .attoseconds in
-    decided (ap (λ (b : Bool). b && firstTest f && ltb a (10 ^ 18) && isDate (dateIn f) && eqb (a % scale (f .digits)) 0) (bounds-told (c .before) ∙ not-true _ (c .if1 .taken)))
+    decided
+    (ap (λ (b : Bool). b && firstTest f && ltb a (10 ^ 18) && isDate (dateIn f) && eqb (a % scale (f .digits)) 0)
+    (bounds-told (c .before) ∙ not-true _ (c .if1 .taken)))
 
 -- ---- the first values
 
@@ -52,7 +54,9 @@ returns-2 c =
     let s = e1 .before .before in
     let f = fieldsIn s in
     let a = s .args .attoseconds in
-    decided (ap₂ (λ (b p : Bool). b && p && ltb a (10 ^ 18) && isDate (dateIn f) && eqb (a % scale (f .digits)) 0) (bounds e1) (first-told (c .before) ∙ not-true _ (c .if2 .taken)))
+    decided
+    (ap₂ (λ (b p : Bool). b && p && ltb a (10 ^ 18) && isDate (dateIn f) && eqb (a % scale (f .digits)) 0) (bounds e1)
+    (first-told (c .before) ∙ not-true _ (c .if2 .taken)))
 
 -- both passed
 fields : (c : tie.Else2) → let f = fieldsIn (c .before .before .before .before .before) in (boundsTest f && firstTest f) ≡ true
@@ -65,17 +69,22 @@ returns-3 c =
     let s = c .before .before .before .before .before .before in
     let f = fieldsIn s in
     let a = s .args .attoseconds in
-    decided (ap₂ (λ (b l : Bool). b && l && isDate (dateIn f) && eqb (a % scale (f .digits)) 0) (fields (c .before)) (le-ltb a (10 ^ 18) (c .if3 .taken)))
+    decided
+    (ap₂ (λ (b l : Bool). b && l && isDate (dateIn f) && eqb (a % scale (f .digits)) 0) (fields (c .before))
+    (le-ltb a (10 ^ 18) (c .if3 .taken)))
 
 -- all passed that stands before the date
-passed : (c : tie.Else3) → let s = c .before .before .before .before .before .before in (boundsTest (fieldsIn s) && firstTest (fieldsIn s) && ltb (s .args .attoseconds) (10 ^ 18)) ≡ true
+passed : (c : tie.Else3) → let s =
+    c .before .before .before .before .before .before in
+    (boundsTest (fieldsIn s) && firstTest (fieldsIn s) && ltb (s .args .attoseconds) (10 ^ 18)) ≡ true
 passed c =
     let a = c .before .before .before .before .before .before .args .attoseconds in
     ap₂ _&&_ (fields (c .before)) (lt-ltb a (10 ^ 18) (c .if3 .left))
 
 -- ---- the date and the multiple
 
-date-told : (c : tie.After-is-date) → isDate (dateIn (fieldsIn (c .before .before .before .before .before .before .before))) ≡ c .is-date .result
+date-told : (c : tie.After-is-date)
+    → isDate (dateIn (fieldsIn (c .before .before .before .before .before .before .before))) ≡ c .is-date .result
 date-told c = sym (c .is-date .ensures ∙ ap (λ (f : Fields). isDate (dateIn f)) (unpacked (c .before .before .before .before)))
 
 returns-4 : tie.Need-returns-4

@@ -14,7 +14,8 @@ use Rattle.timestamp.proofs.checking.check_by_building.Tie as tie
 returns : tie.Need-returns
 returns c =
     let u = c .before .before in
-    c .refused .ensures ∙ sym (check-digits (u .before .args .s) (subst (λ (f : Fields). 18 < f .digits) (u .unpack .ensures) (c .before .if1 .taken)))
+    c .refused .ensures
+    ∙ sym (check-digits (u .before .args .s) (subst (λ (f : Fields). 18 < f .digits) (u .unpack .ensures) (c .before .if1 .taken)))
 
 -- the fields that the check hands to the builder are staged
 build-fields-requires : tie.Need-build-fields-requires

@@ -43,7 +43,8 @@ fields c = check-gives (c .before .before .args .s) (zero c) .fields
 utc-fields-requires : tie.Need-utc-fields-requires
 utc-fields-requires c κs =
     let v = fields (c .before) in
-    subst (λ (f : Fields). IsDateTime (timeIn f) × (f .year ≤ 9999) × WithinDay (offsetOf (f .offset))) (sym (c .unpack .ensures)) (valid-time v, v .to-year, valid-offset v)
+    subst (λ (f : Fields). IsDateTime (timeIn f) × (f .year ≤ 9999) × WithinDay (offsetOf (f .offset))) (sym (c .unpack .ensures))
+    (valid-time v, v .to-year, valid-offset v)
 
 utc : (c : tie.After-utc-fields) → c .utc-fields .result ≡ utcFields (fieldsOf (wordIn (c .before .before .before .before .args .s)))
 utc c = c .utc-fields .ensures ∙ ap utcFields (c .before .unpack .ensures)
@@ -55,7 +56,8 @@ returns-2 : tie.Need-returns-2
 returns-2 c =
     let e1 = c .before .before .before in
     let s = e1 .before .before .args .s in
-    ap (λ (w : ℕ). acceptedBuild (packedPair w (s .attoseconds))) (c .pack .ensures ∙ ap wordOf (utc (c .before))) ∙ sym (utc-accepted s (zero e1))
+    ap (λ (w : ℕ). acceptedBuild (packedPair w (s .attoseconds))) (c .pack .ensures ∙ ap wordOf (utc (c .before)))
+    ∙ sym (utc-accepted s (zero e1))
 
 pub to-utc-spec : {M : Type 1} → statement M
 to-utc-spec =

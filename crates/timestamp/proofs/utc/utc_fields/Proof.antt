@@ -41,9 +41,12 @@ returns-2 c =
     let u = n .before .before .before .before in
     let f = u .before .before .args .f in
     c .shifted-fields .ensures
-    ∙ ap₂ (λ (m : OffsetMinutes) (r : RawOffset). withTime f (shifted (timeIn f) (m .0)) r) (n .negated .ensures) (c .before .raw-of .ensures)
+    ∙ ap₂ (λ (m : OffsetMinutes) (r : RawOffset). withTime f (shifted (timeIn f) (m .0)) r) (n .negated .ensures)
+    (c .before .raw-of .ensures)
     ∙ ap (λ (o : Offset). utcBy o f) (sym (n .before .before .o .given .1) ∙ u .offset-of .ensures)
 
 pub utc-fields-spec : {M : Type 1} → statement M
 utc-fields-spec =
-    tie.close (tie.spec (λ c κs. search needs) (λ c. search needs) (λ c. search needs) negated-requires (λ c κs. search needs) shifted-fields-requires returns returns-2)
+    tie.close
+    (tie.spec (λ c κs. search needs) (λ c. search needs) (λ c. search needs) negated-requires (λ c κs. search needs) shifted-fields-requires
+    returns returns-2)

@@ -1,4 +1,4 @@
--- `builder::utc_route::from_utc_fields` meets its contract. Assumes nothing.
+-- `builder::routes::from_utc_fields` meets its contract. Assumes nothing.
 use mathlib.Core.Path.{_≡_, sym, ap, subst, _∙_}
 use mathlib.Core.Bool.{true, false}
 use native.Mathlib.Omega.{arith}
@@ -13,8 +13,8 @@ use Rattle.calendar.proofs.Shifts.{shifted-is}
 use Rattle.calendar.proofs.FirstDay.{moved-room}
 use Rattle.builder.proofs.Bounds.{year-is}
 use Rattle.builder.proofs.Times.{time-is, time-in-range}
-use Rattle.builder.proofs.utc_route.from_utc_fields.Statement.{statement}
-use Rattle.builder.proofs.utc_route.from_utc_fields.Tie as tie
+use Rattle.builder.proofs.routes.from_utc_fields.Statement.{statement}
+use Rattle.builder.proofs.routes.from_utc_fields.Tie as tie
 
 returns : tie.Need-returns
 returns c =
@@ -35,7 +35,8 @@ add-offset-to-utc-requires c κs =
     (rw e (omega (arith, b .year)), subst IsDateTime (sym e) (time-is (s .args .f) b (day e1)), s .pre .1)
 
 -- the local time
-local : (c : tie.After-add-offset-to-utc) → let s = c .before .before .before .before in c .add-offset-to-utc .result ≡ movedTime (s .args .f) (s .args .m)
+local : (c : tie.After-add-offset-to-utc) → let s =
+    c .before .before .before .before in c .add-offset-to-utc .result ≡ movedTime (s .args .f) (s .args .m)
 local c =
     let s = c .before .before .before .before in
     c .add-offset-to-utc .ensures ∙ ap (λ (t : DateTime). shifted t (s .args .m .0)) (c .before .given-time .ensures)
@@ -47,12 +48,18 @@ returns-2 c =
     let s = e1 .before .before in
     let h = day e1 in
     let k : isYear (movedTime (s .args .f) (s .args .m) .year) ≡ false =
-    ap (λ (t : DateTime). isYear (t .year)) (sym (local a)) ∙ sym (c .before .before .is-year .ensures) ∙ not-true _ (c .before .if2 .taken) in
+    ap (λ (t : DateTime). isYear (t .year)) (sym (local a))
+    ∙ sym (c .before .before .is-year .ensures)
+    ∙ not-true _ (c .before .if2 .taken) in
     c .refused2 .ensures ∙ simp (h, k)
 
 -- the local year is one
-year : (c : tie.Else2) → let s = c .before .before .before .before .before .before in isYear (movedTime (s .args .f) (s .args .m) .year) ≡ true
-year c = ap (λ (t : DateTime). isYear (t .year)) (sym (local (c .before .before))) ∙ sym (c .before .is-year .ensures) ∙ not-false _ (c .if2 .left)
+year : (c : tie.Else2) → let s =
+    c .before .before .before .before .before .before in isYear (movedTime (s .args .f) (s .args .m) .year) ≡ true
+year c =
+    ap (λ (t : DateTime). isYear (t .year)) (sym (local (c .before .before)))
+    ∙ sym (c .before .is-year .ensures)
+    ∙ not-false _ (c .if2 .left)
 
 finish-requires : tie.Need-finish-requires
 finish-requires c κs =

@@ -1,4 +1,4 @@
--- `builder::local_route::from_fields` meets its contract. Assumes nothing.
+-- `builder::routes::from_fields` meets its contract. Assumes nothing.
 use mathlib.Core.Path.{_≡_, sym, ap, subst, _∙_}
 use mathlib.Core.Bool.{true, false}
 use native.Mathlib.Omega.{arith}
@@ -8,8 +8,8 @@ use Rattle.ion.specs.Pair.Word.{InRange}
 use Rattle.ion.specs.Calls.Build.{isYear, isDay, givenTime, packedOf, pairAt, acceptedBuild}
 use Rattle.ion.specs.declared.DateTime.{DateTime}
 use Rattle.builder.proofs.Times.{time-is, time-in-range}
-use Rattle.builder.proofs.local_route.from_fields.Statement.{statement}
-use Rattle.builder.proofs.local_route.from_fields.Tie as tie
+use Rattle.builder.proofs.routes.from_fields.Statement.{statement}
+use Rattle.builder.proofs.routes.from_fields.Tie as tie
 
 returns : tie.Need-returns
 returns c =

@@ -1,4 +1,4 @@
--- `builder::answer::finish` meets its contract. Assumes nothing.
+-- `builder::routes::finish` meets its contract. Assumes nothing.
 use mathlib.Core.Path.{_≡_, sym, ap, subst, _∙_}
 use Prim.Native.Nat.{ℕ}
 use borrow.Author.Needs.{needs}
@@ -6,8 +6,8 @@ use Rattle.ion.specs.Pair.Word.{InRange, wordOf}
 use Rattle.ion.specs.declared.Fields.{Fields}
 use Rattle.ion.specs.Pair.Pair.{packedPair}
 use Rattle.ion.specs.Calls.Build.{packedOf, acceptedBuild}
-use Rattle.builder.proofs.answer.finish.Statement.{statement}
-use Rattle.builder.proofs.answer.finish.Tie as tie
+use Rattle.builder.proofs.routes.finish.Statement.{statement}
+use Rattle.builder.proofs.routes.finish.Tie as tie
 
 -- the fields that are packed
 same : (c : tie.After-raw-of) → let a = c .before .before .before .args in _≡_ {A = Fields}
@@ -43,7 +43,8 @@ pack-requires c κs = subst InRange (sym (same c)) (c .before .before .before .p
 
 returns : tie.Need-returns
 returns c =
-    ap (λ (w : ℕ). acceptedBuild (packedPair w (c .before .before .before .before .args .f .attoseconds))) (c .pack .ensures ∙ ap wordOf (same (c .before)))
+    ap (λ (w : ℕ). acceptedBuild (packedPair w (c .before .before .before .before .args .f .attoseconds)))
+    (c .pack .ensures ∙ ap wordOf (same (c .before)))
 
 pub finish-spec : {M : Type 1} → statement M
 finish-spec =
