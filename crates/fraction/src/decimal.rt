@@ -9,12 +9,12 @@ ghost use mathlib.Core.Path.{_≡_};
 ghost use Prim.Native.Nat.{_/_, _^_, min};
 ghost use Rattle.ion.specs.Pair.Fraction.{capped, digitsOf, attosecondsOf, belowZero, decimal};
 
-// Minus the exponent, or 0 where that is 0 or more: the lowest exponent has no negative of 64 bits.
+// Minus the exponent, or 0 where that is 0 or more.
 fn digits_of(exponent: i64) -> u64
     ensures { λ r. ⌜ r ≡ digitsOf exponent ⌝ }
 {
     if exponent < 0 {
-        return (-(exponent + 1)) as u64 + 1;
+        return integers::unsigned_abs(exponent);
     }
     0
 }
