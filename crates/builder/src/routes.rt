@@ -13,7 +13,8 @@ use ion::refusal;
 ghost use mathlib.Core.Path.{_≡_};
 ghost use Rattle.ion.specs.Pair.Offset.{WithinDay};
 ghost use Rattle.ion.specs.Pair.Word.{InRange};
-ghost use Rattle.ion.specs.Calls.Build.{precisionNumber, packedOf, pairAt, acceptedBuild, firstOf, isDay, isYear, givenTime, localChecks, buildAnswer, movedTime, utcChecks};
+ghost use Rattle.ion.specs.Calls.Build.{precisionNumber, isDay, isYear, givenTime, movedTime};
+ghost use Rattle.ion.specs.Calls.Build.{firstOf, localChecks, utcChecks, packedOf, pairAt, acceptedBuild, buildAnswer};
 ghost use Rattle.ion.specs.Calls.Accepted.{InBounds};
 
 fn precision_number(p: TimestampPrecision) -> u32
@@ -29,7 +30,7 @@ fn precision_number(p: TimestampPrecision) -> u32
 }
 
 // The packed pair of the local fields.
-pub(crate) fn finish(f: BuilderFields, local: DateTime, o: Offset) -> Built
+fn finish(f: BuilderFields, local: DateTime, o: Offset) -> Built
     requires { ⌜ WithinDay o × InRange (packedOf f local o) ⌝ }
     ensures { λ r. ⌜ r ≡ acceptedBuild (pairAt f local o) ⌝ }
 {
@@ -54,7 +55,8 @@ pub(crate) fn finish(f: BuilderFields, local: DateTime, o: Offset) -> Built
     }
 }
 
-pub(crate) fn is_day(f: BuilderFields) -> bool
+// Whether there is such a calendar day.
+fn is_day(f: BuilderFields) -> bool
     ensures { λ r. ⌜ r ≡ isDay f ⌝ }
 {
     calendar::is_date(Date {
@@ -64,13 +66,15 @@ pub(crate) fn is_day(f: BuilderFields) -> bool
     })
 }
 
-pub(crate) fn is_year(year: u32) -> bool
+// Whether it is a local year.
+fn is_year(year: u32) -> bool
     ensures { λ r. ⌜ r ≡ isYear year ⌝ }
 {
     (1 <= year) & (year <= 9999)
 }
 
-pub(crate) fn given_time(f: BuilderFields) -> DateTime
+// The fields to the minute, as they were given.
+fn given_time(f: BuilderFields) -> DateTime
     ensures { λ r. ⌜ r ≡ givenTime f ⌝ }
 {
     DateTime {
@@ -82,6 +86,7 @@ pub(crate) fn given_time(f: BuilderFields) -> DateTime
     }
 }
 
+// From local fields.
 pub(crate) fn from_fields(f: BuilderFields, o: Offset) -> Built
     requires { ⌜ InBounds f × WithinDay o ⌝ }
     ensures { λ r. ⌜ r ≡ buildAnswer (firstOf (localChecks f)) (pairAt f (givenTime f) o) ⌝ }
@@ -97,6 +102,7 @@ pub(crate) fn from_fields(f: BuilderFields, o: Offset) -> Built
     finish(f, given_time(f), o)
 }
 
+// From UTC fields, which an offset moves to local ones.
 pub(crate) fn from_utc_fields(f: BuilderFields, m: OffsetMinutes) -> Built
     requires { ⌜ InBounds f × WithinDay (Offset.Known m) ⌝ }
     ensures { λ r. ⌜ r ≡ buildAnswer (firstOf (utcChecks f m)) (pairAt f (movedTime f m) (Offset.Known m)) ⌝ }

@@ -61,7 +61,15 @@ prev-day t p pos = go (decLt 1 (t .day)) (decLt 1 (t .month))
         )
     go (no h) (no k) = simp (le-ltb _ _ low, le-ltb _ _ low′) (
       record { first = lit≤ tt; last = le-of-eq (sym (december _)) },
-      omega (arith, first, sum-more yearLength (t .year - 1), ap yearStart e, sum-more (monthLength (t .year - 1)) 12, months-year (isLeap (t .year - 1)), december (isLeap (t .year - 1))),
+      omega (
+        arith,
+        first,
+        sum-more yearLength (t .year - 1),
+        ap yearStart e,
+        sum-more (monthLength (t .year - 1)) 12,
+        months-year (isLeap (t .year - 1)),
+        december (isLeap (t .year - 1)),
+      ),
     )
       where
         low : t .day ≤ 1

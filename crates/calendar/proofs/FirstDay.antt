@@ -38,8 +38,9 @@ moved-room t z p w y = go (decLe (down z) (minuteNumber t))
         let total = pos (t .hour * 60 + t .minute) +ℤ z in
         let k : dayNumber (dateOf t) ≡ 0 = omega (arith, natAbs-parts z) in
         let e : dateOf t ≡ first = day-number-inj (dateOf t) first (p .date) first-is (k ∙ sym first-number) in
+        let a = add-parts (pos (t .hour * 60 + t .minute)) z in
+        let q = floor-div-parts total 1440 (lit< tt) in
         let d : floorDiv total 1440 ≡ negsuc 0 =
-        parts-eq (floorDiv total 1440) (negsuc 0)
-        (omega (arith, natAbs-parts z, apart z, add-parts (pos (t .hour * 60 + t .minute)) z, apart total, floor-div-parts total 1440 (lit< tt), p .hours, p .minutes)) in
+        parts-eq (floorDiv total 1440) (negsuc 0) (omega (arith, natAbs-parts z, apart z, a, apart total, q, p .hours, p .minutes)) in
         let f : shifted t z .year ≡ 0 = ap₂ (λ (u : Date) (v : ℤ). addDays u v .year) e d ∙ before-first in
         absurd (omega (arith, f))

@@ -6,7 +6,7 @@ use native.Mathlib.Omega.{arith}
 use lib.Dec.{lit<}
 use lib.IntN.{ℤ, pos, negsuc, natAbs, negℤ, _+ℤ_, negℤ-negℤ}
 use Rattle.integers.specs.Floor.{floorDiv, _plus_}
-use Rattle.integers.proofs.Parts.{up, down, apart, add-parts, floor-parts, floor-mod-lt, plus-parts, neg-parts, natAbs-parts, parts-eq}
+use Rattle.integers.proofs.Parts.{up, down, apart, add-parts, floor-parts, floor-mod-lt, plus-parts, neg-parts, natAbs-parts}
 use Rattle.ion.specs.Calendar.Dates.{dayNumber, IsDate, nextDay, prevDay, yearLength}
 use Rattle.ion.specs.Calendar.Shift.{dateOf, IsDateTime, minuteNumber, repeat, addDays, shifted}
 use Rattle.ion.specs.declared.Date.{Date}
@@ -40,9 +40,10 @@ add-days t (negsuc n) p l = let h = backward t (suc n) p l in (h .0, omega (arit
 -- ---- minutes
 
 -- the minutes tell the date and time
-pub minute-number-inj : (t u : DateTime) → IsDateTime t → IsDateTime u → minuteNumber t ≡ minuteNumber u → t ≡ u
+minute-number-inj : (t u : DateTime) → IsDateTime t → IsDateTime u → minuteNumber t ≡ minuteNumber u → t ≡ u
 minute-number-inj t u p q e =
-    let d : dateOf t ≡ dateOf u = day-number-inj (dateOf t) (dateOf u) (p .date) (q .date) (omega (arith, e, p .hours, p .minutes, q .hours, q .minutes)) in
+    let m : dayNumber (dateOf t) ≡ dayNumber (dateOf u) = omega (arith, e, p .hours, p .minutes, q .hours, q .minutes) in
+    let d : dateOf t ≡ dateOf u = day-number-inj (dateOf t) (dateOf u) (p .date) (q .date) m in
     let n : t .hour * 60 + t .minute ≡ u .hour * 60 + u .minute = omega (arith, e, ap dayNumber d) in
     let h : t .hour ≡ u .hour = omega (arith, n, p .minutes, q .minutes) in
     let k : t .minute ≡ u .minute = omega (arith, n, h) in
@@ -70,14 +71,8 @@ module _ (t : DateTime) (z : ℤ) (p : IsDateTime t) (l : down z ≤ minuteNumbe
       let r = floor-mod-lt total 1440 (lit< tt) in
       record { date = moved .0; hours = omega arith; minutes = omega arith }
 
-  pub shifted-minutes : minuteNumber (shifted t z) ≡ minuteNumber t plus z
+  shifted-minutes : minuteNumber (shifted t z) ≡ minuteNumber t plus z
   shifted-minutes = omega (arith, add-parts (pos time) z, floor-parts total 1440 (lit< tt), moved .1, plus-parts (minuteNumber t) z l)
-
-  -- the same in ℤ
-  pub shifted-minutes-ℤ : pos (minuteNumber (shifted t z)) ≡ pos (minuteNumber t) +ℤ z
-  shifted-minutes-ℤ =
-      let n = minuteNumber t in
-      parts-eq (pos (minuteNumber (shifted t z))) (pos n +ℤ z) (omega (arith, shifted-minutes, plus-parts n z l, add-parts (pos n) z))
 
 pub shift-back : (t : DateTime) (z : ℤ) → IsDateTime t → down z ≤ minuteNumber t → shifted (shifted t z) (negℤ z) ≡ t
 shift-back t z p l =

@@ -15,7 +15,7 @@ use Rattle.fraction.proofs.Capped.{cap-high, cap-multiple}
 use Rattle.fraction.proofs.Quotients.{up-to}
 
 -- past the eighteenth digit the unit is 1, of which every number is a multiple
-pub decimal-multiple : (n d : ℕ) → attosecondsOf n d % scale d ≡ 0
+decimal-multiple : (n d : ℕ) → attosecondsOf n d % scale d ≡ 0
 decimal-multiple n d = go (decLe d 18)
   where
     go : Dec (d ≤ 18) → attosecondsOf n d % scale d ≡ 0

@@ -66,9 +66,10 @@ raw-and-back Unknown h = refl
 raw-and-back (Known m) h =
     let n = 1440 plus m .0 in
     let b = raw-below (m .0) h in
-    rw (ne-eqb n 0 (omega arith))
-    (ap (λ (z : ℤ). Known (offsetMinutes z))
-    (parts-eq (pos n -ℤ pos 1440) (m .0) (omega (arith, sub-parts (pos n) (pos 1440), natAbs-parts (m .0), plus-parts 1440 (m .0) (omega (arith, natAbs-parts (m .0)))))))
+    let a = natAbs-parts (m .0) in
+    let p = plus-parts 1440 (m .0) (omega (arith, a)) in
+    let z = parts-eq (pos n -ℤ pos 1440) (m .0) (omega (arith, sub-parts (pos n) (pos 1440), a, p)) in
+    rw (ne-eqb n 0 (omega arith)) (ap (λ (z : ℤ). Known (offsetMinutes z)) z)
 
 -- a raw number below 2880 through its offset and back
 module _ (r : RawOffset) (h : r .0 < 2880) where

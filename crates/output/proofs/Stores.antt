@@ -29,7 +29,7 @@ pub put-fits : (d : List ℕ) (at : ℕ) (s : List ℕ) → at + length s ≤ le
 unfolding put
 put-fits d at s h = rw (le-leb (at + length s) (length d) h)
 
-pub put-short : (d : List ℕ) (at : ℕ) (s : List ℕ) → length d < at + length s → put d at s ≡ d
+put-short : (d : List ℕ) (at : ℕ) (s : List ℕ) → length d < at + length s → put d at s ≡ d
 unfolding put
 put-short d at s h = rw (lt-leb (at + length s) (length d) h)
 

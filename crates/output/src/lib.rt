@@ -42,7 +42,8 @@ pub fn copy_in(buf: &mut [u8], at: usize, src: &[u8])
 
 // Writes the bytes of `src` from index `at` on.
 pub fn put_bytes(buf: &mut [u8], at: usize, src: &[u8]) -> Written
-    ensures { λ r. ⌜ (r ≡ wrote (now (buf .entry)) at (now (src .entry))) × (now (buf .exit) ≡ put (now (buf .entry)) at (now (src .entry))) ⌝ }
+    ensures { λ r. ⌜ r ≡ wrote (now (buf .entry)) at (now (src .entry)) ⌝ }
+    ensures { λ _. ⌜ now (buf .exit) ≡ put (now (buf .entry)) at (now (src .entry)) ⌝ }
 {
     let answer = room_for(buf.len(), at, src.len());
     if answer.number != 0 {

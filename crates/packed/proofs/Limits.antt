@@ -1,14 +1,14 @@
--- Fields of a word compared with their limits all at once. Between two of them stands another that is masked out, so that each has room
--- above
--- it; each gains what its limit lacks of its width, and so one beyond its limit reaches into that room. Assumes nothing.
-use mathlib.Core.Path.{_≡_, refl, sym, ap, ap₂, subst, _∙_}
+-- Fields of a word compared with their limits all at once. Between two of them stands another that is masked out, so that each
+-- has room above it; each gains what its limit lacks of its width, and so one beyond its limit reaches into that room.
+-- Assumes nothing.
+use mathlib.Core.Path.{_≡_, sym, ap, ap₂, _∙_}
 use mathlib.Core.List.{List, [], _∷_}
 use Prim.Native.Nat.{ℕ, suc, _+_, _-_, _*_, _/_, _%_, _^_, _≤_, _<_}
 use native.Mathlib.Nat.{pow-suc, mod-lt, lt-of-lt-of-le, mul-le-mul-right}
 use native.Mathlib.Decide.{decLe}
 use native.Mathlib.Omega.{arith}
 use lib.Arith.{digits-lt}
-use lib.Pow.{pow-pos, pow-add, split, add-lt-pow, suc-ones}
+use lib.Pow.{pow-pos, pow-add, split, add-lt-pow}
 use lib.Bits.{bitAnd, and-zero-r, and-comm, and-self, and-mask, and-shifted, and-block}
 use Rattle.ion.specs.Pair.Layout.{fieldAt}
 
@@ -17,6 +17,9 @@ pub record Limited : Type 0 where
   pub above : ℕ
   pub width : ℕ
   pub limit : ℕ
+
+abbrev pub limited : ℕ → ℕ → ℕ → Limited
+limited a w m = record { above = a; width = w; limit = m }
 
 -- the bits from the lowest on, of which b stand below all the fields
 abbrev pub size : ℕ → List Limited → ℕ
@@ -28,13 +31,13 @@ abbrev pub masks : ℕ → List Limited → ℕ
 masks b [] = 0
 masks b (x ∷ l) = (2 ^ x .width - 1) * 2 ^ size b l + masks b l
 
-abbrev pub rooms : ℕ → List Limited → ℕ
-rooms b [] = 0
-rooms b (x ∷ l) = (2 ^ x .width - 1 - x .limit) * 2 ^ size b l + rooms b l
+abbrev pub spares : ℕ → List Limited → ℕ
+spares b [] = 0
+spares b (x ∷ l) = (2 ^ x .width - 1 - x .limit) * 2 ^ size b l + spares b l
 
-abbrev pub overs : ℕ → List Limited → ℕ
-overs b [] = 0
-overs b (x ∷ l) = 2 ^ x .width * 2 ^ size b l + overs b l
+abbrev pub bitsAbove : ℕ → List Limited → ℕ
+bitsAbove b [] = 0
+bitsAbove b (x ∷ l) = 2 ^ x .width * 2 ^ size b l + bitsAbove b l
 
 abbrev pub Fits : List Limited → Type 0
 Fits [] = Unit
@@ -58,7 +61,7 @@ masks-lt : (b : ℕ) (l : List Limited) → masks b l < 2 ^ size b l
 masks-lt b [] = pow-pos b
 masks-lt b (x ∷ l) = top-lt (x .above) (suc (x .width)) (size b l) (omega (arith, pow-pos (x .width), double (x .width))) (masks-lt b l)
 
-overs-lt : (b : ℕ) (l : List Limited) → overs b l < 2 ^ size b l
+overs-lt : (b : ℕ) (l : List Limited) → bitsAbove b l < 2 ^ size b l
 overs-lt b [] = pow-pos b
 overs-lt b (x ∷ l) = top-lt (x .above) (suc (x .width)) (size b l) (omega (arith, pow-pos (x .width), double (x .width))) (overs-lt b l)
 
@@ -78,14 +81,14 @@ mask-step w p k m h =
     ∙ ap₂ (λ (a r : ℕ). a * 2 ^ p + r) (and-mask (w / 2 ^ p) k) (sym (low-and w p m h))
 
 abbrev gained : ℕ → List Limited → ℕ → ℕ
-gained b l w = bitAnd w (masks b l) + rooms b l
+gained b l w = bitAnd w (masks b l) + spares b l
 
 -- a field with its gain
 abbrev raised : ℕ → Limited → ℕ → ℕ
 raised p x w = fieldAt p (x .width) w + (2 ^ x .width - 1 - x .limit)
 
 gained-step : (b : ℕ) (x : Limited) (l : List Limited) (w : ℕ) → gained b (x ∷ l) w ≡ raised (size b l) x w * 2 ^ size b l + gained b l w
-gained-step b x l w = ap (λ (n : ℕ). n + rooms b (x ∷ l)) (mask-step w (size b l) (x .width) (masks b l) (masks-lt b l)) ∙ omega arith
+gained-step b x l w = ap (λ (n : ℕ). n + spares b (x ∷ l)) (mask-step w (size b l) (x .width) (masks b l) (masks-lt b l)) ∙ omega arith
 
 raised-lt : (p : ℕ) (x : Limited) (w : ℕ) → raised p x w < 2 ^ suc (x .width)
 raised-lt p x w = add-lt-pow (x .width) (mod-lt (w / 2 ^ p) (pow-pos (x .width))) (omega (arith, pow-pos (x .width)))
@@ -98,13 +101,13 @@ gained-lt b (x ∷ l) w =
 -- ---- the bits beyond the limits
 
 abbrev pub beyond : ℕ → List Limited → ℕ → ℕ
-beyond b l w = bitAnd (bitAnd w (masks b l) + rooms b l) (overs b l)
+beyond b l w = bitAnd (bitAnd w (masks b l) + spares b l) (bitsAbove b l)
 
 beyond-step : (b : ℕ) (x : Limited) (l : List Limited) (w : ℕ)
     → beyond b (x ∷ l) w ≡ bitAnd (raised (size b l) x w) (2 ^ x .width) * 2 ^ size b l + beyond b l w
 beyond-step b x l w =
-    ap (λ (n : ℕ). bitAnd n (overs b (x ∷ l))) (gained-step b x l w)
-    ∙ and-block (size b l) (raised (size b l) x w) (2 ^ x .width) (gained b l w) (overs b l) (gained-lt b l w) (overs-lt b l)
+    ap (λ (n : ℕ). bitAnd n (bitsAbove b (x ∷ l))) (gained-step b x l w)
+    ∙ and-block (size b l) (raised (size b l) x w) (2 ^ x .width) (gained b l w) (bitsAbove b l) (gained-lt b l w) (overs-lt b l)
 
 -- the bit of a number that is below it, and of one that has it
 bit-clear : (n k : ℕ) → n < 2 ^ k → bitAnd n (2 ^ k) ≡ 0

@@ -96,7 +96,7 @@ module _ (b : ℕ) (hb : 1 < b) where
       omega arith
 
   -- a number below b ^ n that has no fewer places has n
-  pub count-unique : (n q : ℕ) → q < b ^ n → b ^ n ≤ b * q + (b - 1) → count b q ≡ n
+  count-unique : (n q : ℕ) → q < b ^ n → b ^ n ≤ b * q + (b - 1) → count b q ≡ n
   count-unique zero q h l = omega (arith, count-least 0 q h)
   count-unique (suc n) q h l = go (count-least (suc n) q h) (decLe (count b q) n)
     where

@@ -94,7 +94,7 @@ pub build-checks : (b : BuilderFields) → Staged b → buildNumber b ≡ 0 → 
 build-checks b s e = check-accepts (buildPair b) (build-accepted b s e)
 
 -- and so to all that the stages give
-pub gives-checks : {t : Stage} {b : BuilderFields} → Gives t b → buildNumber b ≡ 0 → checkOf (buildPair b) ≡ acceptedBuild (buildPair b)
+gives-checks : {t : Stage} {b : BuilderFields} → Gives t b → buildNumber b ≡ 0 → checkOf (buildPair b) ≡ acceptedBuild (buildPair b)
 gives-checks {t} {b} g e = build-checks b (gives-staged g) e
 
 -- to every pair that `build` answers at any stage the packed check answers 0 and that pair

@@ -28,7 +28,7 @@ use Rattle.builder.proofs.Bounds.{bounds-pass, is-year}
 use Rattle.timestamp.proofs.Valid.{valid-offset}
 
 -- 5 to 7 read as 4
-pub precision-min : (p : ℕ) → precisionNumber (precisionOf p) ≡ min p 4
+precision-min : (p : ℕ) → precisionNumber (precisionOf p) ≡ min p 4
 precision-min zero = refl
 precision-min (suc zero) = refl
 precision-min (suc (suc zero)) = refl

@@ -39,8 +39,8 @@ validTest f a = boundsTest f && firstTest f && ltb a (10 ^ 18) && isDate (dateIn
 -- each test with the fact that it decides, in that order
 abbrev pub Bounds : Fields → Type 0
 Bounds f =
-    (((((((1 ≤ f .year) × (f .year ≤ 9999)) × (f .hour ≤ 23)) × (f .minute ≤ 59)) × (f .second ≤ 59)) × (f .precision ≤ 4)) ×
-    (f .digits ≤ 18))
+    (((((((1 ≤ f .year) × (f .year ≤ 9999)) × (f .hour ≤ 23)) × (f .minute ≤ 59)) × (f .second ≤ 59)) × (f .precision ≤ 4))
+    × (f .digits ≤ 18))
     × (f .offset .0 < 2880)
 
 abbrev First : Fields → Type 0
@@ -101,7 +101,10 @@ all-valid f a (((((((((((y, z), h), mi), s), p), n), o), (((mo, d), t), u)), l),
 valid-all : (f : Fields) (a : ℕ) → Valid f a → All f a
 valid-all f a v =
     let b : Bounds f = (((((((v .from-year, v .to-year), v .hour), v .minute), v .second), v .precision), v .digits), v .offset) in
-    let i : First f = (((v .no-month, v .no-day), λ k. ((v .no-hour k, v .no-minute k), v .no-offset k)), λ k. (v .no-second k, v .no-digits k)) in
+    let i : First f = (
+      ((v .no-month, v .no-day), λ k. ((v .no-hour k, v .no-minute k), v .no-offset k)),
+      λ k. (v .no-second k, v .no-digits k),
+    ) in
     ((((b, i), v .attoseconds), v .date), v .multiple)
 
 pub valid-decides : (f : Fields) (a : ℕ) → Decides (validTest f a) (Valid f a)

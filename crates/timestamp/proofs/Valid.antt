@@ -31,7 +31,7 @@ use Rattle.builder.proofs.Times.{local-is}
 unmoved : (b : BuilderFields) → Staged b → precisionNumber (b .precision) < 3 → localTime b (b .offset) ≡ givenTime b
 unmoved b s k = ap (localTime b) (s .offset k)
 
-pub build-valid : (b : BuilderFields) → Staged b → buildNumber b ≡ 0
+build-valid : (b : BuilderFields) → Staged b → buildNumber b ≡ 0
     → Valid (packedOf b (localTime b (b .offset)) (offsetGiven (b .offset))) (b .attoseconds)
 unfolding buildNumber
 build-valid b s e =

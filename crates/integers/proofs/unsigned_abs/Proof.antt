@@ -1,6 +1,6 @@
 -- `integers::unsigned_abs` meets its contract: below 0 the number one nearer to 0 is negated. Assumes nothing.
 use mathlib.Core.Path.{_≡_, refl}
-use mathlib.Core.Bool.{true, false}
+use mathlib.Core.Bool.{true}
 use native.Mathlib.Omega.{arith}
 use lib.IntN.{ℤ, pos, _+ℤ_, _-ℤ_}
 use lib.Signed.{ltZ}
@@ -65,7 +65,8 @@ cast-result-2 : tie.Need-cast-result-2
 cast-result-2 c =
     let f = c .before .fits .value in
     let h = c .if1 .left in
-    simp toZ-ofZ (may-cast w64 (itself-is (c .before .args .value) (simp toZ-ofZ at h)) (omega (arith, size-most w64 (c .before .args .value) f)))
+    let z = c .before .args .value in
+    simp toZ-ofZ (may-cast w64 (itself-is z (simp toZ-ofZ at h)) (omega (arith, size-most w64 z f)))
 
 returns-2 : tie.Need-returns-2
 returns-2 c =

@@ -2,7 +2,7 @@
 use Prim.Native.Nat.{ℕ, _^_}
 use mathlib.Core.Bool.{Bool, true, false, not, cond, _&&_}
 use mathlib.Core.List.{List, [], _∷_, _++_}
-use lib.Dec.{eqb, leb, ltb}
+use lib.Dec.{leb, ltb}
 use Rattle.ion.specs.Calls.Refusal as refused
 use Rattle.ion.specs.Calls.Answered.{answered}
 use Rattle.ion.specs.Calendar.Dates.{isDate}

@@ -1,6 +1,6 @@
 -- The check of a packed pair. Assumes nothing.
 use Prim.Native.Nat.{ℕ}
-use mathlib.Core.Bool.{Bool, true, false, cond, _&&_}
+use mathlib.Core.Bool.{cond, _&&_}
 use lib.Dec.{eqb, leb, ltb}
 use Rattle.ion.specs.Calls.Refusal.{digitsRefused, pairRefused}
 use Rattle.ion.specs.Pair.Offset.{offsetOf}
@@ -15,7 +15,7 @@ use Rattle.ion.specs.declared.offset.Offset.the-variants as offset
 use Rattle.ion.specs.declared.TimestampPrecision.{TimestampPrecision}
 use Rattle.ion.specs.declared.TimestampPrecision.the-variants.{Year, Month, Day, HourAndMinute, Second}
 use Rattle.ion.specs.declared.BuilderOffset.{BuilderOffset}
-use Rattle.ion.specs.declared.BuilderOffset.the-variants.{Unknown, FromLocalFields, FromUtcFields}
+use Rattle.ion.specs.declared.BuilderOffset.the-variants.{Unknown, FromLocalFields}
 use Rattle.ion.specs.declared.BuilderFields.{BuilderFields}
 use Rattle.ion.specs.declared.Timestamp.{Timestamp}
 use Rattle.ion.specs.declared.Built.{Built}

@@ -1,7 +1,7 @@
 -- The magnitude of an Int of Ion binary: big-endian bytes, of which the first one's highest bit is the sign and so clear.
 -- Assumes nothing.
 use Prim.Native.Nat.{ℕ, _*_, _^_}
-use mathlib.Core.Bool.{Bool, cond, _&&_}
+use mathlib.Core.Bool.{cond, _&&_}
 use mathlib.Core.List.{List}
 use lib.Dec.{eqb, ltb}
 use lib.ListN.{length}

@@ -1,7 +1,7 @@
 -- VarUInt of Ion binary: a number in groups of seven bits, highest first, a byte each, the last byte marked by 128.
 -- Assumes nothing.
 use Prim.Native.Nat.{ℕ, zero, suc, _+_, _*_, _/_, _%_}
-use mathlib.Core.Bool.{Bool, true, false, cond}
+use mathlib.Core.Bool.{Bool, false, cond}
 use mathlib.Core.List.{List, [], _∷_}
 use lib.Dec.{eqb, leb, ltb}
 use Rattle.places.specs.Places.{plain, placesOn, placeCount}

@@ -2,9 +2,8 @@
 -- Assumes nothing.
 use Prim.Native.Nat.{ℕ}
 use mathlib.Core.List.{List, [], _∷_}
-use mathlib.Core.Path.{_≡_}
 use lib.ListN.{getD}
-use Rattle.ion.specs.Pair.Layout.{join, parts, fieldAt, Within}
+use Rattle.ion.specs.Pair.Layout.{join, parts, Within}
 use Rattle.ion.specs.Pair.Offset.{rawOffset}
 use Rattle.ion.specs.declared.Fields.{Fields}
 

@@ -1,9 +1,9 @@
 -- The parts of a body of Ion binary, each in its shortest form. Assumes nothing.
 use Prim.Native.Nat.{ℕ, zero, suc, _-_, _*_}
-use mathlib.Core.Bool.{Bool, true, false, cond, not, _&&_, _||_}
+use mathlib.Core.Bool.{Bool, true, false, cond, not, _&&_}
 use mathlib.Core.List.{List, [], _∷_, _++_}
 use lib.Dec.{eqb, leb, ltb}
-use lib.IntN.{ℤ, pos, negsuc}
+use lib.IntN.{pos, negsuc}
 use lib.ListN.{length, drop, getD}
 use Rattle.ion.specs.Numbers.VarUInt.{readVarUInt}
 use Rattle.ion.specs.Numbers.VarInt.{readVarInt}

@@ -3,7 +3,7 @@ use Prim.Native.Nat.{ℕ, zero, suc, _+_, _/_}
 use mathlib.Core.Bool.{true, cond}
 use mathlib.Core.List.{List, [], _∷_, _++_}
 use lib.Dec.{leb}
-use lib.IntN.{ℤ, negsuc}
+use lib.IntN.{negsuc}
 use lib.ListN.{length, take}
 use Rattle.ion.specs.Numbers.VarUInt.{varuint}
 use Rattle.ion.specs.Numbers.VarInt.{signed, varint}

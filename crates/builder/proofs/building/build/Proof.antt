@@ -35,20 +35,18 @@ minutes c = c .minutes-of .ensures ∙ ap (λ (o : Offset). offsetMinutes (minut
 from-utc-fields-requires : tie.Need-from-utc-fields-requires
 from-utc-fields-requires c κs =
     let a = c .before .before in
-    let e1 = a .before .before in (
-      bounds e1,
-      within-utc (e1 .before .before .args .f .offset) (sym (a .is-utc .ensures) ∙ c .before .if2 .taken) (within e1) (c .minutes-of .result) (minutes c),
-    )
+    let e1 = a .before .before in
+    let u = sym (a .is-utc .ensures) ∙ c .before .if2 .taken in
+    (bounds e1, within-utc (e1 .before .before .args .f .offset) u (within e1) (c .minutes-of .result) (minutes c))
 
 returns-2 : tie.Need-returns-2
 returns-2 c =
     let a = c .before .before .before in
     let e1 = a .before .before in
     let f = e1 .before .before .args .f in
-    c .from-utc-fields .ensures
-    ∙ sym
-    (build-routed f (passed e1)
-    ∙ routed-utc f (f .offset) (sym (a .is-utc .ensures) ∙ c .before .before .if2 .taken) (c .before .minutes-of .result) (minutes (c .before)))
+    let u = sym (a .is-utc .ensures) ∙ c .before .before .if2 .taken in
+    let r = build-routed f (passed e1) ∙ routed-utc f (f .offset) u (c .before .minutes-of .result) (minutes (c .before)) in
+    c .from-utc-fields .ensures ∙ sym r
 
 from-fields-requires : tie.Need-from-fields-requires
 from-fields-requires c κs =

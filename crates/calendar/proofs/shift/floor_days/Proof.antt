@@ -31,15 +31,15 @@ module _ (m : ℤ) (f : SFits w32 m) where
   below : ltZ (remZ m (pos 1440)) (pos 0) ≡ true → quotZ m (pos 1440) -ℤ pos 1 ≡ floorDiv m 1440
   below h =
       let q = quotZ m (pos 1440) in
-      parts-eq (q -ℤ pos 1) (floorDiv m 1440)
-      (omega
-      (arith, sub-parts q (pos 1), quot-parts m 1440, rem-parts m 1440, floor-div-parts m 1440 (lit< tt), lt-parts (remZ m (pos 1440)) (pos 0) h, apart m))
+      let l = lt-parts (remZ m (pos 1440)) (pos 0) h in
+      let d = floor-div-parts m 1440 (lit< tt) in
+      parts-eq (q -ℤ pos 1) (floorDiv m 1440) (omega (arith, sub-parts q (pos 1), quot-parts m 1440, rem-parts m 1440, d, l, apart m))
 
   not-below : ltZ (remZ m (pos 1440)) (pos 0) ≡ false → quotZ m (pos 1440) ≡ floorDiv m 1440
   not-below h =
-      parts-eq (quotZ m (pos 1440)) (floorDiv m 1440)
-      (omega
-      (arith, quot-parts m 1440, rem-parts m 1440, floor-div-parts m 1440 (lit< tt), ge-parts (remZ m (pos 1440)) (pos 0) h, apart m))
+      let l = ge-parts (remZ m (pos 1440)) (pos 0) h in
+      let d = floor-div-parts m 1440 (lit< tt) in
+      parts-eq (quotZ m (pos 1440)) (floorDiv m 1440) (omega (arith, quot-parts m 1440, rem-parts m 1440, d, l, apart m))
 
 sub-result : tie.Need-sub-result
 sub-result c =

@@ -25,11 +25,11 @@ fieldsIn c = fieldsOf (c .args .w)
 
 -- ---- the bounds
 
-bounds-told : (c : tie.After-in-bounds) → boundsTest (fieldsIn (c .before)) ≡ c .in-bounds .result
-bounds-told c = sym (c .in-bounds .ensures)
+bounds-tested : (c : tie.After-in-bounds) → boundsTest (fieldsIn (c .before)) ≡ c .in-bounds .result
+bounds-tested c = sym (c .in-bounds .ensures)
 
 bounds : (c : tie.Else1) → boundsTest (fieldsIn (c .before .before)) ≡ true
-bounds c = bounds-told (c .before) ∙ not-false _ (c .if1 .left)
+bounds c = bounds-tested (c .before) ∙ not-false _ (c .if1 .left)
 
 returns : tie.Need-returns
 returns c =
@@ -38,15 +38,15 @@ returns c =
     let a = s .args .attoseconds in
     decided
     (ap (λ (b : Bool). b && firstTest f && ltb a (10 ^ 18) && isDate (dateIn f) && eqb (a % scale (f .digits)) 0)
-    (bounds-told (c .before) ∙ not-true _ (c .if1 .taken)))
+    (bounds-tested (c .before) ∙ not-true _ (c .if1 .taken)))
 
 -- ---- the first values
 
 unpacked : (c : tie.After-unpack) → c .unpack .result ≡ fieldsIn (c .before .before .before)
 unpacked c = c .unpack .ensures
 
-first-told : (c : tie.After-has-first-values) → firstTest (fieldsIn (c .before .before .before .before)) ≡ c .has-first-values .result
-first-told c = sym (c .has-first-values .ensures ∙ ap firstTest (unpacked (c .before)))
+first-tested : (c : tie.After-has-first-values) → firstTest (fieldsIn (c .before .before .before .before)) ≡ c .has-first-values .result
+first-tested c = sym (c .has-first-values .ensures ∙ ap firstTest (unpacked (c .before)))
 
 returns-2 : tie.Need-returns-2
 returns-2 c =
@@ -56,11 +56,11 @@ returns-2 c =
     let a = s .args .attoseconds in
     decided
     (ap₂ (λ (b p : Bool). b && p && ltb a (10 ^ 18) && isDate (dateIn f) && eqb (a % scale (f .digits)) 0) (bounds e1)
-    (first-told (c .before) ∙ not-true _ (c .if2 .taken)))
+    (first-tested (c .before) ∙ not-true _ (c .if2 .taken)))
 
 -- both passed
 fields : (c : tie.Else2) → let f = fieldsIn (c .before .before .before .before .before) in (boundsTest f && firstTest f) ≡ true
-fields c = ap₂ _&&_ (bounds (c .before .before .before)) (first-told (c .before) ∙ not-false _ (c .if2 .left))
+fields c = ap₂ _&&_ (bounds (c .before .before .before)) (first-tested (c .before) ∙ not-false _ (c .if2 .left))
 
 -- ---- the attoseconds
 
@@ -74,8 +74,8 @@ returns-3 c =
     (le-ltb a (10 ^ 18) (c .if3 .taken)))
 
 -- all passed that stands before the date
-passed : (c : tie.Else3) → let s =
-    c .before .before .before .before .before .before in
+passed : (c : tie.Else3)
+    → let s = c .before .before .before .before .before .before in
     (boundsTest (fieldsIn s) && firstTest (fieldsIn s) && ltb (s .args .attoseconds) (10 ^ 18)) ≡ true
 passed c =
     let a = c .before .before .before .before .before .before .args .attoseconds in
@@ -83,9 +83,9 @@ passed c =
 
 -- ---- the date and the multiple
 
-date-told : (c : tie.After-is-date)
+date-tested : (c : tie.After-is-date)
     → isDate (dateIn (fieldsIn (c .before .before .before .before .before .before .before))) ≡ c .is-date .result
-date-told c = sym (c .is-date .ensures ∙ ap (λ (f : Fields). isDate (dateIn f)) (unpacked (c .before .before .before .before)))
+date-tested c = sym (c .is-date .ensures ∙ ap (λ (f : Fields). isDate (dateIn f)) (unpacked (c .before .before .before .before)))
 
 returns-4 : tie.Need-returns-4
 returns-4 c =
@@ -93,7 +93,8 @@ returns-4 c =
     let s = e3 .before .before .before .before .before .before in
     let f = fieldsIn s in
     let a = s .args .attoseconds in
-    decided (ap₂ (λ (b d : Bool). b && d && eqb (a % scale (f .digits)) 0) (passed e3) (date-told (c .before) ∙ not-true _ (c .if4 .taken)))
+    let d = date-tested (c .before) ∙ not-true _ (c .if4 .taken) in
+    decided (ap₂ (λ (b d : Bool). b && d && eqb (a % scale (f .digits)) 0) (passed e3) d)
 
 is-multiple-requires : tie.Need-is-multiple-requires
 is-multiple-requires c κs = c .before .before .if3 .left
@@ -106,7 +107,7 @@ returns-5 c =
     let f = fieldsIn s in
     let a = s .args .attoseconds in
     decided (
-    ap₂ (λ (b d : Bool). b && d && eqb (a % scale (f .digits)) 0) (passed e3) (date-told (e4 .before) ∙ not-false _ (e4 .if4 .left))
+    ap₂ (λ (b d : Bool). b && d && eqb (a % scale (f .digits)) 0) (passed e3) (date-tested (e4 .before) ∙ not-false _ (e4 .if4 .left))
     ∙ sym (c .is-multiple .ensures ∙ ap (λ (g : Fields). eqb (a % scale (g .digits)) 0) (unpacked (e3 .before .before .before)))
     )
 

@@ -1,8 +1,8 @@
 -- `timestamp::utc::utc_fields` meets its contract. Assumes nothing.
-use mathlib.Core.Path.{_≡_, sym, ap, ap₂, subst, _∙_}
+use mathlib.Core.Path.{sym, ap, ap₂, subst, _∙_}
 use Prim.Native.Nat.{_<_}
 use native.Mathlib.Omega.{arith}
-use lib.IntN.{ℤ, negℤ, natAbs}
+use lib.IntN.{natAbs}
 use borrow.Author.Needs.{needs}
 use Rattle.ion.specs.Calendar.Shift.{shifted}
 use Rattle.ion.specs.Pair.Offset.{WithinDay}
