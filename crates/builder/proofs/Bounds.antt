@@ -7,7 +7,7 @@ use lib.Dec.{leb}
 use lib.IntN.{ℤ, natAbs}
 use borrow.Author.Tests.{lt-ltb, le-ltb, lt-leb, ltb-false, leb-false, ltb-true, leb-true, le-leb, not-false}
 use Rattle.ion.specs.Pair.Offset.{WithinDay, isOffset}
-use Rattle.ion.specs.Calls.Build.{precisionNumber, rangeChecks, offsetOutside, offsetGiven, isYear}
+use Rattle.ion.specs.Calls.Build.{precisionNumber, rangeChecks, offsetOutside, toOffset, isYear}
 use Rattle.ion.specs.Calls.Accepted.{InBounds}
 use Rattle.ion.specs.declared.BuilderFields.{BuilderFields}
 use Rattle.ion.specs.declared.BuilderOffset.{BuilderOffset}
@@ -22,12 +22,12 @@ offset-is z e = ltb-true (natAbs z) 1440 (not-false (isOffset z) e)
 is-offset : (z : ℤ) → natAbs z < 1440 → not (isOffset z) ≡ false
 is-offset z h = ap not (lt-ltb (natAbs z) 1440 h)
 
-within : (o : BuilderOffset) → offsetOutside o ≡ false → WithinDay (offsetGiven o)
+within : (o : BuilderOffset) → offsetOutside o ≡ false → WithinDay (toOffset o)
 within Unknown e = tt
 within (FromLocalFields m) e = offset-is (m .0) e
 within (FromUtcFields m) e = offset-is (m .0) e
 
-not-outside : (o : BuilderOffset) → WithinDay (offsetGiven o) → offsetOutside o ≡ false
+not-outside : (o : BuilderOffset) → WithinDay (toOffset o) → offsetOutside o ≡ false
 not-outside Unknown h = refl
 not-outside (FromLocalFields m) h = is-offset (m .0) h
 not-outside (FromUtcFields m) h = is-offset (m .0) h

@@ -4,7 +4,7 @@ use mathlib.Core.Bool.{true, false, true≢false, false≢true}
 use Prim.Native.Nat.{ℕ}
 use borrow.Author.Tests.{ne-eqb}
 use Rattle.ion.specs.Pair.Offset.{WithinDay, offsetMinutes, minutesOf}
-use Rattle.ion.specs.Calls.Build.{firstOf, rangeChecks, routeChecks, localChecks, utcChecks, localTime, givenTime, movedTime, offsetGiven}
+use Rattle.ion.specs.Calls.Build.{firstOf, rangeChecks, routeChecks, localChecks, utcChecks, localTime, givenTime, movedTime, toOffset}
 use Rattle.ion.specs.Calls.Build.{isUtc, pairAt, refusedBuild, buildAnswer, buildNumber, buildPair, buildOf}
 use Rattle.ion.specs.declared.offset.OffsetMinutes.{OffsetMinutes}
 use Rattle.ion.specs.declared.offset.Offset.the-variants as offset
@@ -27,34 +27,34 @@ route-numbered f (FromUtcFields m) = (tt, (tt, tt))
 
 -- what the route gives
 abbrev pub routed : BuilderFields → BuilderOffset → Built
-routed f o = buildAnswer (firstOf (routeChecks f o)) (pairAt f (localTime f o) (offsetGiven o))
+routed f o = buildAnswer (firstOf (routeChecks f o)) (pairAt f (localTime f o) (toOffset o))
 
 -- fields that are not UTC's are local
 pub routed-local : (f : BuilderFields) (o : BuilderOffset) → isUtc o ≡ false
-    → routed f o ≡ buildAnswer (firstOf (localChecks f)) (pairAt f (givenTime f) (offsetGiven o))
+    → routed f o ≡ buildAnswer (firstOf (localChecks f)) (pairAt f (givenTime f) (toOffset o))
 routed-local f Unknown e = refl
 routed-local f (FromLocalFields m) e = refl
 routed-local f (FromUtcFields m) e = absurd (true≢false e)
 
 pub routed-utc : (f : BuilderFields) (o : BuilderOffset) → isUtc o ≡ true → (m : OffsetMinutes)
-    → m ≡ offsetMinutes (minutesOf (offsetGiven o))
+    → m ≡ offsetMinutes (minutesOf (toOffset o))
     → routed f o ≡ buildAnswer (firstOf (utcChecks f m)) (pairAt f (movedTime f m) (offset.Known m))
 routed-utc f Unknown e m h = absurd (false≢true e)
 routed-utc f (FromLocalFields n) e m h = absurd (false≢true e)
 routed-utc f (FromUtcFields n) e m h = ap (λ (k : OffsetMinutes). routed f (FromUtcFields k)) (sym h)
 
-pub within-utc : (o : BuilderOffset) → isUtc o ≡ true → WithinDay (offsetGiven o) → (m : OffsetMinutes)
-    → m ≡ offsetMinutes (minutesOf (offsetGiven o)) → WithinDay (offset.Known m)
+pub within-utc : (o : BuilderOffset) → isUtc o ≡ true → WithinDay (toOffset o) → (m : OffsetMinutes)
+    → m ≡ offsetMinutes (minutesOf (toOffset o)) → WithinDay (offset.Known m)
 within-utc Unknown e w m h = absurd (false≢true e)
 within-utc (FromLocalFields n) e w m h = absurd (false≢true e)
 within-utc (FromUtcFields n) e w m h = subst (λ (k : OffsetMinutes). WithinDay (offset.Known k)) (sym h) w
 
 pub build-routed : (f : BuilderFields) → AllPass (rangeChecks f) → buildOf f ≡ routed f (f .offset)
-unfolding buildNumber buildPair
+unfolding buildOf buildNumber buildPair
 build-routed f h = ap (λ (n : ℕ). buildAnswer n (buildPair f)) (pass-next (rangeChecks f) (routeChecks f (f .offset)) h)
 
 pub build-refused : (f : BuilderFields) → (firstOf (rangeChecks f) ≡ 0 → ⊥) → buildOf f ≡ refusedBuild (firstOf (rangeChecks f))
-unfolding buildNumber
+unfolding buildOf buildNumber
 build-refused f h =
     ap (λ (n : ℕ). buildAnswer n (buildPair f)) (fail-first (rangeChecks f) (routeChecks f (f .offset)) h)
     ∙ simp (ne-eqb (firstOf (rangeChecks f)) 0 h)

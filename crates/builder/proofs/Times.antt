@@ -7,7 +7,7 @@ use borrow.Author.Tests.{not-false}
 use Rattle.ion.specs.Calendar.Shift.{IsDateTime, dateOf}
 use Rattle.ion.specs.Pair.Offset.{WithinDay}
 use Rattle.ion.specs.Pair.Word.{InRange}
-use Rattle.ion.specs.Calls.Build.{precisionNumber, isYear, isDay, offsetGiven, routeChecks, localChecks, givenTime, movedTime, localTime}
+use Rattle.ion.specs.Calls.Build.{precisionNumber, isYear, isDay, toOffset, routeChecks, localChecks, givenTime, movedTime, localTime}
 use Rattle.ion.specs.Calls.Build.{packedOf}
 use Rattle.ion.specs.Calls.Accepted.{InBounds, Staged}
 use Rattle.ion.specs.declared.DateTime.{DateTime}
@@ -64,7 +64,7 @@ given-is f b h =
     record { time = time-is f b (not-false (isDay f) (h .1 .0)); from-year = y .0; to-year = y .1 }
 
 -- the local time, on either route
-pub local-is : (f : BuilderFields) (o : BuilderOffset) → InBounds f → WithinDay (offsetGiven o) → AllPass (routeChecks f o)
+pub local-is : (f : BuilderFields) (o : BuilderOffset) → InBounds f → WithinDay (toOffset o) → AllPass (routeChecks f o)
     → IsLocalTime (localTime f o)
 local-is f Unknown b w h = given-is f b h
 local-is f (FromLocalFields m) b w h = given-is f b h

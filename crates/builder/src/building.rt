@@ -10,7 +10,7 @@ use ion::offset::Offset;
 use ion::refusal;
 ghost use mathlib.Core.Path.{_≡_};
 ghost use Rattle.ion.specs.Calls.Accepted.{Staged};
-ghost use Rattle.ion.specs.Calls.Build.{offsetGiven, isUtc, offsetOutside, firstOf, rangeChecks, buildOf};
+ghost use Rattle.ion.specs.Calls.Build.{toOffset, isUtc, offsetOutside, firstOf, rangeChecks, buildOf};
 
 // Whether an offset is known and a day or more.
 fn offset_outside(f: BuilderFields) -> bool
@@ -25,8 +25,8 @@ fn offset_outside(f: BuilderFields) -> bool
 }
 
 // The offset of a timestamp that is built.
-fn offset_given(f: BuilderFields) -> Offset
-    ensures { λ r. ⌜ r ≡ offsetGiven (f .offset) ⌝ }
+fn to_offset(f: BuilderFields) -> Offset
+    ensures { λ r. ⌜ r ≡ toOffset (f .offset) ⌝ }
 {
     let o = f.offset;
     match o {
@@ -99,7 +99,7 @@ pub(crate) fn build(f: BuilderFields) -> Built
     if n != 0 {
         return Built::refused(n);
     }
-    let o = offset_given(f);
+    let o = to_offset(f);
     if is_utc(f) {
         return from_utc_fields(f, offset::minutes_of(o));
     }

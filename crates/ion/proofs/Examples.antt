@@ -96,11 +96,11 @@ p8 = minute (date 9999 12 31) 23 59 (negsuc 0)
 stamp : BuilderFields → Timestamp
 stamp f = buildOf f .stamp
 
-answered : Built → Answer
-answered b = pair (b .number) (wordIn (b .stamp)) (b .stamp .attoseconds)
+builtAnswer : Built → Answer
+builtAnswer b = pair (b .number) (wordIn (b .stamp)) (b .stamp .attoseconds)
 
 built : BuilderFields → Answer
-built f = answered (buildOf f)
+built f = builtAnswer (buildOf f)
 
 refused : BuilderFields → Answer
 refused f = number (buildOf f .number)
@@ -151,7 +151,7 @@ p8Bytes = 0x67 ∷ 0xc1 ∷ 0x4e ∷ 0x90 ∷ 0x81 ∷ 0x81 ∷ 0x80 ∷ 0x80 �
 pub table : List Row
 table =
     row 1 (built p1) (pair 0 0x0004420000000000 0)
-    ∷ row 1 (answered (checkOf (packedPair 0x0004420000000000 0))) (pair 0 0x0004420000000000 0)
+    ∷ row 1 (builtAnswer (checkOf (packedPair 0x0004420000000000 0))) (pair 0 0x0004420000000000 0)
     ∷ row 1 (text p1) (bytes (ascii "0001T"))
     ∷ row 1 (written p1) (bytes p1Bytes)
     ∷ row 1 (readBack p1Bytes) (taken p1 3)
@@ -178,17 +178,17 @@ table =
     ∷ row 8 (readBack p8Bytes) (taken p8 8)
     ∷ row 9 (compared (minute (date 2020 3 1) 23 28 (pos 1439)) (minute (date 2020 2 28) 23 30 (negsuc 1438))) (order (pos 0) true)
     ∷ row 10 (apart (withYear 2021) (withYear 2020)) (distance (pos 1) 31622400 0)
-    ∷ row 11 (answered (checkOf (packedPair 0x0004420000000000 1))) (pair 12 0 0)
+    ∷ row 11 (builtAnswer (checkOf (packedPair 0x0004420000000000 1))) (pair 12 0 0)
     ∷ row 12 (refused (date 1900 2 29)) (number 10)
     ∷ row 12 (refused (date 2000 2 29)) (number 0)
     ∷ []
 
 -- every row
 pub examples : map (λ (r : Row). r .given) table ≡ map (λ (r : Row). r .stated) table
-unfolding table row date minute sixth at p1 p3 p4 p5 p6 p7 p8 p1Bytes p3Bytes p4Bytes p5Bytes p6Bytes p7Bytes p8Bytes stamp answered built
+unfolding table row date minute sixth at p1 p3 p4 p5 p6 p7 p8 p1Bytes p3Bytes p4Bytes p5Bytes p6Bytes p7Bytes p8Bytes stamp builtAnswer built
     refused text written readBack taken compared apart placesOn places countIn count placeCount valueFrom groups varuint scanFrom
     readVarUInt signedCount signed varint readVarInt intCount int readInt decimalBytes padded isLeap monthLengthOf sumBelow wordOf fieldsOf
-    capped buildNumber buildPair checkOf utcFields countOf cmpOf eqOf distanceOf marked fractionText clockText minutesText offsetText
+    capped buildOf buildNumber buildPair checkOf utcFields countOf cmpOf eqOf distanceOf marked fractionText clockText minutesText offsetText
     fieldsText textOf offsetBytes varuints fieldCount fractionBytes bodyFrom bodyOf header valueOf decodeOffset decodeFields decodeFraction
     filled precisionWith decodeBody pairFrom same isBodyOf readBody readAfter readLength readValue
 examples = refl

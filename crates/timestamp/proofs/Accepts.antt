@@ -46,6 +46,7 @@ same s n t h = at (ℕ-discrete n 0) (ℕ-discrete (wordIn t) (wordIn s)) (ℕ-d
 
 -- where it answers 0 the timestamp is an accepted one
 pub check-gives : (s : Timestamp) → checkOf s .number ≡ 0 → Accepted s
+unfolding buildOf
 check-gives s e = go (decLe (fieldsOf (wordIn s) .digits) 18)
   where
     b : BuilderFields
@@ -80,6 +81,7 @@ same-alone s n t = go (ℕ-discrete n 0)
     go (no k) = simp (ne-eqb n 0 k) (λ h. refl)
 
 pub check-refuses : (s : Timestamp) → (checkOf s .number ≡ 0 → ⊥) → checkOf s ≡ refusedBuild (checkOf s .number)
+unfolding buildOf
 check-refuses s = go (decLe (fieldsOf (wordIn s) .digits) 18)
   where
     b : BuilderFields
@@ -99,6 +101,7 @@ gives-checks {t} {b} g e = build-checks b (gives-staged g) e
 
 -- to every pair that `build` answers at any stage the packed check answers 0 and that pair
 pub built-checks : {t : Stage} {f : BuilderFields} → Gives t f → buildOf f .number ≡ 0 → checkOf (buildOf f .stamp) ≡ buildOf f
+unfolding buildOf
 built-checks {t} {f} g e = go (ℕ-discrete (buildNumber f) 0)
   where
     go : Dec (buildNumber f ≡ 0) → checkOf (buildOf f .stamp) ≡ buildOf f

@@ -11,7 +11,7 @@ use Rattle.ion.specs.Pair.Offset.{WithinDay, rawOf, offsetOf}
 use Rattle.ion.specs.Pair.Word.{wordOf}
 use Rattle.ion.specs.Pair.Pair.{packedPair}
 use Rattle.ion.specs.Pair.Fraction.{scale}
-use Rattle.ion.specs.Calls.Build.{precisionNumber, firstOf, rangeChecks, isYear, isDay, offsetGiven, routeChecks, localChecks, givenTime}
+use Rattle.ion.specs.Calls.Build.{precisionNumber, firstOf, rangeChecks, isYear, isDay, toOffset, routeChecks, localChecks, givenTime}
 use Rattle.ion.specs.Calls.Build.{localTime, pairAt, acceptedBuild, buildAnswer, buildNumber, buildPair, buildOf}
 use Rattle.ion.specs.Calls.Check.{precisionOf, fromLocal, offsetAt, givenAt, fractionAt, rebuilt}
 use Rattle.ion.specs.Calls.Accepted.{InBounds, Staged, Valid, dateIn}
@@ -136,7 +136,7 @@ rebuilt-all {f} {a} v =
 
 -- ---- valid fields are built into their word
 
-offset-is : (o : Offset) → offsetGiven (fromLocal o) ≡ o
+offset-is : (o : Offset) → toOffset (fromLocal o) ≡ o
 offset-is Unknown = refl
 offset-is (Known m) = refl
 
@@ -190,6 +190,7 @@ all-pair {f} {a} v =
     })
 
 valid-builds : {f : Fields} {a : ℕ} → Valid f a → buildOf (allOf f a) ≡ acceptedBuild (packedPair (wordOf f) a)
+unfolding buildOf
 valid-builds v = ap₂ buildAnswer (all-number v) (all-pair v)
 
 -- what the check rebuilds of valid fields is built into their pair

@@ -9,7 +9,7 @@ use Rattle.ion.specs.Pair.Offset.{WithinDay, rawOf, offsetOf}
 use Rattle.ion.specs.Pair.Word.{InRange, wordOf, fieldsOf}
 use Rattle.ion.specs.Pair.Pair.{wordIn, packedPair}
 use Rattle.ion.specs.Pair.Fraction.{scale}
-use Rattle.ion.specs.Calls.Build.{precisionNumber, rangeChecks, offsetGiven, routeChecks, givenTime, localTime, packedOf, buildNumber}
+use Rattle.ion.specs.Calls.Build.{precisionNumber, rangeChecks, toOffset, routeChecks, givenTime, localTime, packedOf, buildNumber}
 use Rattle.ion.specs.Calls.Build.{buildPair}
 use Rattle.ion.specs.Calls.Accepted.{Staged, Valid, Accepted, dateIn, timeIn}
 use Rattle.ion.specs.declared.DateTime.{DateTime}
@@ -32,7 +32,7 @@ unmoved : (b : BuilderFields) → Staged b → precisionNumber (b .precision) < 
 unmoved b s k = ap (localTime b) (s .offset k)
 
 build-valid : (b : BuilderFields) → Staged b → buildNumber b ≡ 0
-    → Valid (packedOf b (localTime b (b .offset)) (offsetGiven (b .offset))) (b .attoseconds)
+    → Valid (packedOf b (localTime b (b .offset)) (toOffset (b .offset))) (b .attoseconds)
 unfolding buildNumber
 build-valid b s e =
     let r = routeChecks b (b .offset) in
@@ -48,14 +48,14 @@ build-valid b s e =
       second = i .second;
       precision = precision-le (b .precision);
       digits = i .digits;
-      offset = raw-lt (offsetGiven (b .offset)) (i .offset);
+      offset = raw-lt (toOffset (b .offset)) (i .offset);
       attoseconds = i .attoseconds;
       multiple = s .multiple (i .attoseconds);
       no-month = λ k. ap (λ (t : DateTime). t .month) (unmoved b s (omega arith)) ∙ s .month k;
       no-day = λ k. ap (λ (t : DateTime). t .day) (unmoved b s (omega arith)) ∙ s .day k;
       no-hour = λ k. ap (λ (t : DateTime). t .hour) (unmoved b s k) ∙ s .hour k;
       no-minute = λ k. ap (λ (t : DateTime). t .minute) (unmoved b s k) ∙ s .minute k;
-      no-offset = λ k. ap (λ (o : BuilderOffset). rawOf (offsetGiven o) .0) (s .offset k);
+      no-offset = λ k. ap (λ (o : BuilderOffset). rawOf (toOffset o) .0) (s .offset k);
       no-second = s .second;
       no-digits = s .digits;
     }

@@ -6,7 +6,7 @@ use Rattle.ion.specs.Pair.Offset.{WithinDay}
 use Rattle.ion.specs.Pair.Word.{fieldsOf}
 use Rattle.ion.specs.Pair.Pair.{wordIn}
 use Rattle.ion.specs.Pair.Fraction.{scale}
-use Rattle.ion.specs.Calls.Build.{precisionNumber, offsetGiven}
+use Rattle.ion.specs.Calls.Build.{precisionNumber, toOffset}
 use Rattle.ion.specs.declared.Date.{Date}
 use Rattle.ion.specs.declared.DateTime.{DateTime}
 use Rattle.ion.specs.declared.Fields.{Fields}
@@ -24,7 +24,7 @@ pub record InBounds (f : BuilderFields) : Type 0 where
   pub minute : f .minute ≤ 59
   pub second : f .second ≤ 59
   pub digits : f .digits ≤ 18
-  pub offset : WithinDay (offsetGiven (f .offset))
+  pub offset : WithinDay (toOffset (f .offset))
 
 -- what the stages leave: fields that were not given have their first values, and a fraction has no more than its digits
 pub record Staged (b : BuilderFields) : Type 0 where

@@ -37,10 +37,11 @@ abbrev pub firstOf : List (Bool × ℕ) → ℕ
 firstOf [] = 0
 firstOf (t ∷ ts) = cond (t .0) (t .1) (firstOf ts)
 
-abbrev pub offsetGiven : BuilderOffset → Offset
-offsetGiven Unknown = offset.Unknown
-offsetGiven (FromLocalFields m) = offset.Known m
-offsetGiven (FromUtcFields m) = offset.Known m
+-- the offset of what is built
+abbrev pub toOffset : BuilderOffset → Offset
+toOffset Unknown = offset.Unknown
+toOffset (FromLocalFields m) = offset.Known m
+toOffset (FromUtcFields m) = offset.Known m
 
 -- whether the fields are UTC's
 abbrev pub isUtc : BuilderOffset → Bool
@@ -136,7 +137,7 @@ unfoldable pub buildNumber : BuilderFields → ℕ
 buildNumber f = firstOf (rangeChecks f ++ routeChecks f (f .offset))
 
 unfoldable pub buildPair : BuilderFields → Timestamp
-buildPair f = pairAt f (localTime f (f .offset)) (offsetGiven (f .offset))
+buildPair f = pairAt f (localTime f (f .offset)) (toOffset (f .offset))
 
-abbrev pub buildOf : BuilderFields → Built
+unfoldable pub buildOf : BuilderFields → Built
 buildOf f = buildAnswer (buildNumber f) (buildPair f)

@@ -2,7 +2,7 @@
 use mathlib.Core.Path.{_≡_, sym, ap, subst, _∙_}
 use borrow.Author.Needs.{needs}
 use Rattle.ion.specs.Pair.Offset.{WithinDay, offsetMinutes, minutesOf}
-use Rattle.ion.specs.Calls.Build.{firstOf, rangeChecks, offsetGiven, localChecks, givenTime, pairAt, refusedBuild, buildAnswer}
+use Rattle.ion.specs.Calls.Build.{firstOf, rangeChecks, toOffset, localChecks, givenTime, pairAt, refusedBuild, buildAnswer}
 use Rattle.ion.specs.Calls.Accepted.{InBounds}
 use Rattle.ion.specs.declared.offset.Offset.{Offset}
 use Rattle.builder.proofs.Checks.{AllPass}
@@ -24,13 +24,13 @@ bounds : (c : tie.Else1) → InBounds (c .before .before .args .f)
 bounds c = in-bounds (c .before .before .args .f) (passed c)
 
 -- the offset is less than a day
-within : (c : tie.Else1) → WithinDay (offsetGiven (c .before .before .args .f .offset))
+within : (c : tie.Else1) → WithinDay (toOffset (c .before .before .args .f .offset))
 within c = bounds c .offset
 
 -- the minutes of an offset that moves UTC fields
 minutes : (c : tie.After-minutes-of)
-    → c .minutes-of .result ≡ offsetMinutes (minutesOf (offsetGiven (c .before .before .before .before .before .before .args .f .offset)))
-minutes c = c .minutes-of .ensures ∙ ap (λ (o : Offset). offsetMinutes (minutesOf o)) (c .before .before .before .offset-given .ensures)
+    → c .minutes-of .result ≡ offsetMinutes (minutesOf (toOffset (c .before .before .before .before .before .before .args .f .offset)))
+minutes c = c .minutes-of .ensures ∙ ap (λ (o : Offset). offsetMinutes (minutesOf o)) (c .before .before .before .to-offset .ensures)
 
 from-utc-fields-requires : tie.Need-from-utc-fields-requires
 from-utc-fields-requires c κs =
@@ -52,7 +52,7 @@ from-fields-requires : tie.Need-from-fields-requires
 from-fields-requires c κs =
     let a = c .before .before in
     let e1 = a .before in
-    (bounds e1, subst WithinDay (sym (a .offset-given .ensures)) (within e1))
+    (bounds e1, subst WithinDay (sym (a .to-offset .ensures)) (within e1))
 
 returns-3 : tie.Need-returns-3
 returns-3 c =
@@ -60,7 +60,7 @@ returns-3 c =
     let e1 = a .before .before in
     let f = e1 .before .before .args .f in
     c .from-fields .ensures
-    ∙ ap (λ (o : Offset). buildAnswer (firstOf (localChecks f)) (pairAt f (givenTime f) o)) (a .before .offset-given .ensures)
+    ∙ ap (λ (o : Offset). buildAnswer (firstOf (localChecks f)) (pairAt f (givenTime f) o)) (a .before .to-offset .ensures)
     ∙ sym (build-routed f (passed e1) ∙ routed-local f (f .offset) (sym (a .is-utc .ensures) ∙ c .before .if2 .left))
 
 pub build-spec : {M : Type 1} → statement M
