@@ -1,10 +1,10 @@
 // The number of a day, counted from 0000-01-01, and the days after and before it.
-ghost use mathlib.Core.Path.{_≡_};
-ghost use Prim.Native.Nat.{_≤_};
-ghost use Rattle.ion.specs.Calendar.Dates.{IsDate, yearStart, monthStart, dayNumber, nextDay, prevDay};
 use crate::month::is_leap;
 use crate::month::month_length;
 use ion::Date;
+ghost use mathlib.Core.Path.{_≡_};
+ghost use Prim.Native.Nat.{_≤_};
+ghost use Rattle.ion.specs.Calendar.Dates.{IsDate, yearStart, monthStart, dayNumber, nextDay, prevDay};
 
 // The number of 1 January, in closed form: years of 365 days, and a day for each leap year before.
 pub fn year_start(year: u32) -> u64

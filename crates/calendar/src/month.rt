@@ -1,7 +1,7 @@
 // Leap years, the lengths of months, and the days that there are.
+use ion::Date;
 ghost use mathlib.Core.Path.{_≡_};
 ghost use Rattle.ion.specs.Calendar.Dates.{isLeap, monthLength, daysInMonth, isDate};
-use ion::Date;
 
 pub fn is_leap(year: u32) -> bool
     ensures { λ r. ⌜ r ≡ isLeap year ⌝ }

@@ -1,15 +1,15 @@
 // Dates and times moved by a signed number of minutes.
+use crate::day::next_day;
+use crate::day::prev_day;
+use ion::Date;
+use ion::DateTime;
+use ion::offset::OffsetMinutes;
 ghost use mathlib.Core.Path.{_≡_};
 ghost use Prim.Native.Nat.{_≤_, _<_};
 ghost use lib.IntN.{natAbs};
 ghost use Rattle.integers.specs.Floor.{floorDiv, floorMod};
 ghost use Rattle.ion.specs.Calendar.Dates.{IsDate};
 ghost use Rattle.ion.specs.Calendar.Shift.{IsDateTime, addDays, atMinute, shifted};
-use crate::day::next_day;
-use crate::day::prev_day;
-use ion::Date;
-use ion::DateTime;
-use ion::offset::OffsetMinutes;
 
 // The whole days in a number of minutes, rounded down.
 pub fn floor_days(minutes: i32) -> i32

@@ -1,3 +1,4 @@
+-- `output::copy_in` meets its contract. Assumes nothing.
 use borrow.Author.Needs.{needs}
 use mathlib.Core.Path.{_≡_, refl, _∙_}
 use Prim.Native.Nat.{_-_, _≤_}
@@ -54,15 +55,4 @@ returns c =
 pub copy-in-spec : {M : Type 1} → statement M
 copy-in-spec =
     tie.close
-    (tie.spec
-    Inv-loop
-    μ-loop
-    loop-holds
-    shared-slice-read-buf
-    add-buf
-    slice-write-buf
-    add-j
-    loop-less
-    loop-again
-    same-length
-    returns)
+    (tie.spec Inv-loop μ-loop loop-holds shared-slice-read-buf add-buf slice-write-buf add-j loop-less loop-again same-length returns)

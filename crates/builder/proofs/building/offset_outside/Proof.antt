@@ -15,12 +15,5 @@ returns-3 c = ap not (c .is-offset2 .ensures) ∙ ap offsetOutside (sym (c .befo
 pub offset-outside-spec : {M : Type 1} → statement M
 offset-outside-spec =
     tie.close
-    (tie.spec
-    (λ c. search needs)
-    (λ c. search needs)
-    (λ c κs. search needs)
-    (λ c. search needs)
-    (λ c κs. search needs)
-    (λ c. search needs)
-    returns-2
-    returns-3)
+    (tie.spec (λ c. search needs) (λ c. search needs) (λ c κs. search needs) (λ c. search needs) (λ c κs. search needs) (λ c. search needs)
+    returns-2 returns-3)

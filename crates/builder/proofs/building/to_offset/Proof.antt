@@ -14,10 +14,4 @@ returns-3 c = ap toOffset (sym (c .before .o2 .given .1))
 pub to-offset-spec : {M : Type 1} → statement M
 to-offset-spec =
     tie.close
-    (tie.spec
-    (λ c. search needs)
-    (λ c. search needs)
-    (λ c. search needs)
-    (λ c. search needs)
-    returns-2
-    returns-3)
+    (tie.spec (λ c. search needs) (λ c. search needs) (λ c. search needs) (λ c. search needs) returns-2 returns-3)

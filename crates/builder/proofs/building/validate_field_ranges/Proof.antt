@@ -23,15 +23,6 @@ returns-10 c = let h = outside (c .before) ∙ c .if9 .left in search (le-ltb, l
 pub validate-field-ranges-spec : {M : Type 1} → statement M
 validate-field-ranges-spec =
     tie.close
-    (tie.spec
-    returns
-    (λ c. search (lt-ltb, le-ltb, lt-leb))
-    (λ c. search (lt-ltb, le-ltb, lt-leb))
-    (λ c. search (lt-ltb, le-ltb, lt-leb))
-    (λ c. search (lt-ltb, le-ltb, lt-leb))
-    (λ c. search (lt-ltb, le-ltb, lt-leb))
-    (λ c. search (lt-ltb, le-ltb, lt-leb))
-    (λ c. search (lt-ltb, le-ltb, lt-leb))
-    (λ c κs. search needs)
-    returns-9
-    returns-10)
+    (tie.spec returns (λ c. search (lt-ltb, le-ltb, lt-leb)) (λ c. search (lt-ltb, le-ltb, lt-leb)) (λ c. search (lt-ltb, le-ltb, lt-leb))
+    (λ c. search (lt-ltb, le-ltb, lt-leb)) (λ c. search (lt-ltb, le-ltb, lt-leb)) (λ c. search (lt-ltb, le-ltb, lt-leb))
+    (λ c. search (lt-ltb, le-ltb, lt-leb)) (λ c κs. search needs) returns-9 returns-10)

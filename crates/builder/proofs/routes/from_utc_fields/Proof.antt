@@ -89,14 +89,5 @@ returns-3 c =
 pub from-utc-fields-spec : {M : Type 1} → statement M
 from-utc-fields-spec =
     tie.close
-    (tie.spec
-    (λ c κs. search needs)
-    (λ c κs. search needs)
-    returns
-    (λ c κs. search needs)
-    add-offset-to-utc-requires
-    (λ c κs. search needs)
-    (λ c κs. search needs)
-    returns-2
-    finish-requires
-    returns-3)
+    (tie.spec (λ c κs. search needs) (λ c κs. search needs) returns (λ c κs. search needs) add-offset-to-utc-requires (λ c κs. search needs)
+    (λ c κs. search needs) returns-2 finish-requires returns-3)

@@ -114,14 +114,5 @@ returns-5 c =
 pub is-valid-spec : {M : Type 1} → statement M
 is-valid-spec =
     tie.close
-    (tie.spec
-    (λ c κs. search needs)
-    returns
-    (λ c κs. search needs)
-    (λ c κs. search needs)
-    returns-2
-    returns-3
-    (λ c κs. search needs)
-    returns-4
-    is-multiple-requires
-    returns-5)
+    (tie.spec (λ c κs. search needs) returns (λ c κs. search needs) (λ c κs. search needs) returns-2 returns-3 (λ c κs. search needs)
+    returns-4 is-multiple-requires returns-5)

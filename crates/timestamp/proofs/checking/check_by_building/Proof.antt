@@ -36,11 +36,5 @@ returns-2 c =
 pub check-by-building-spec : {M : Type 1} → statement M
 check-by-building-spec =
     tie.close
-    (tie.spec
-    (λ c κs. search needs)
-    (λ c κs. search needs)
-    returns
-    (λ c κs. search needs)
-    build-fields-requires
-    (λ c κs. search needs)
+    (tie.spec (λ c κs. search needs) (λ c κs. search needs) returns (λ c κs. search needs) build-fields-requires (λ c κs. search needs)
     returns-2)
