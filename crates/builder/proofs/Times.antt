@@ -1,7 +1,7 @@
 -- The local time of fields that pass the builder's checks. Assumes nothing.
 use mathlib.Core.Path.{_≡_, ap}
 use mathlib.Core.Bool.{true}
-use Prim.Native.Nat.{_≤_}
+use Prim.Native.Nat.{_≤_, _<_}
 use native.Mathlib.Omega.{arith}
 use borrow.Author.Tests.{not-false}
 use Rattle.ion.specs.Calendar.Shift.{IsDateTime, dateOf}
@@ -9,8 +9,9 @@ use Rattle.ion.specs.Pair.Offset.{WithinDay}
 use Rattle.ion.specs.Pair.Word.{InRange}
 use Rattle.ion.specs.Calls.Build.{precisionNumber, isYear, isDay, toOffset, routeChecks, localChecks, givenTime, movedTime, localTime}
 use Rattle.ion.specs.Calls.Build.{packedOf}
-use Rattle.ion.specs.Calls.Accepted.{InBounds, Staged}
+use Rattle.ion.specs.Calls.Accepted.{InBounds, Staged, dateIn, timeIn}
 use Rattle.ion.specs.declared.DateTime.{DateTime}
+use Rattle.ion.specs.declared.Fields.{Fields}
 use Rattle.ion.specs.declared.BuilderFields.{BuilderFields}
 use Rattle.ion.specs.declared.BuilderOffset.{BuilderOffset}
 use Rattle.ion.specs.declared.BuilderOffset.the-variants.{Unknown, FromLocalFields, FromUtcFields}
@@ -36,21 +37,14 @@ year-alone b s e =
     let d : b .day ≡ 1 = s .day (omega (arith, p)) in
     simp (m, d) (first-day-is (b .year))
 
--- a date and a time in a year that fits have room in the word
+-- fields within their bounds, in a year up to 10000, have room in the word
+pub fields-in-range : (f : Fields) → IsDateTime (timeIn f) → f .year ≤ 10000 → f .second ≤ 59 → f .precision ≤ 4 → f .digits ≤ 18
+    → f .offset .0 < 2880 → InRange f
+fields-in-range f p y s q d o = omega (arith, month-of (dateIn f) (p .date), day-of (dateIn f) (p .date), p .hours, p .minutes)
+
 pub time-in-range : (f : BuilderFields) (t : DateTime) (o : Offset) → InBounds f → IsDateTime t → t .year ≤ 10000 → WithinDay o
     → InRange (packedOf f t o)
-time-in-range f t o b p y w =
-    omega (
-      arith,
-      month-of (dateOf t) (p .date),
-      day-of (dateOf t) (p .date),
-      p .hours,
-      p .minutes,
-      b .second,
-      b .digits,
-      precision-le (f .precision),
-      raw-lt o w,
-    )
+time-in-range f t o b p y w = fields-in-range (packedOf f t o) p y (b .second) (precision-le (f .precision)) (b .digits) (raw-lt o w)
 
 -- a date and a time in a year from 1 to 9999
 pub record IsLocalTime (t : DateTime) : Type 0 where

@@ -7,15 +7,15 @@ use Rattle.integers.proofs.Signs.{size-neg}
 use Rattle.ion.specs.Calendar.Shift.{IsDateTime}
 use Rattle.ion.specs.Pair.Offset.{WithinDay, rawOf, offsetOf}
 use Rattle.ion.specs.Pair.Word.{InRange}
-use Rattle.ion.specs.Calls.Accepted.{Valid, dateIn, timeIn}
+use Rattle.ion.specs.Calls.Accepted.{Valid, timeIn}
 use Rattle.ion.specs.Calls.Utc.{utcBy, utcFields}
 use Rattle.ion.specs.declared.Fields.{Fields}
 use Rattle.ion.specs.declared.offset.RawOffset.{RawOffset}
 use Rattle.ion.specs.declared.offset.Offset.{Offset}
 use Rattle.ion.specs.declared.offset.Offset.the-variants.{Unknown, Known}
 use Rattle.ion.proofs.Offsets.{back-and-raw}
-use Rattle.calendar.proofs.Dates.{month-of, day-of}
 use Rattle.calendar.proofs.Shifts.{shifted-is, shift-room, shifted-year}
+use Rattle.builder.proofs.Times.{fields-in-range}
 use Rattle.timestamp.proofs.Valid.{valid-time, valid-offset}
 
 -- the opposite of less than a day is less than a day
@@ -59,20 +59,6 @@ utc-is {f} v = moved (offsetOf (f .offset)) refl v (valid-offset v)
 
 pub utc-in-range : {f : Fields} {a : ℕ} → Valid f a → InRange (utcFields f)
 utc-in-range {f} v =
-    let g = utcFields f in
     let u = utc-is v in
-    omega (
-      arith,
-      u .year,
-      month-of (dateIn g) (u .time .date),
-      day-of (dateIn g) (u .time .date),
-      u .time .hours,
-      u .time .minutes,
-      u .second,
-      v .second,
-      u .precision,
-      v .precision,
-      u .digits,
-      v .digits,
-      u .offset,
-    )
+    fields-in-range (utcFields f) (u .time) (u .year) (omega (arith, u .second, v .second)) (omega (arith, u .precision, v .precision))
+    (omega (arith, u .digits, v .digits)) (omega (arith, u .offset))

@@ -1,29 +1,26 @@
 -- What the builder gives is valid, and valid fields make an accepted pair. Assumes nothing.
 use mathlib.Core.Path.{_≡_, sym, ap, subst, _∙_}
 use mathlib.Core.List.{_++_}
-use Prim.Native.Nat.{ℕ, _%_, _<_}
-use native.Mathlib.Nat.{mod-eq-of-lt}
+use Prim.Native.Nat.{ℕ, _<_}
 use native.Mathlib.Omega.{arith}
 use Rattle.ion.specs.Calendar.Shift.{IsDateTime}
 use Rattle.ion.specs.Pair.Offset.{WithinDay, rawOf, offsetOf}
 use Rattle.ion.specs.Pair.Word.{InRange, wordOf, fieldsOf}
 use Rattle.ion.specs.Pair.Pair.{wordIn, packedPair}
-use Rattle.ion.specs.Pair.Fraction.{scale}
 use Rattle.ion.specs.Calls.Build.{precisionNumber, rangeChecks, toOffset, routeChecks, givenTime, localTime, packedOf, buildNumber}
 use Rattle.ion.specs.Calls.Build.{buildPair}
-use Rattle.ion.specs.Calls.Accepted.{Staged, Valid, Accepted, dateIn, timeIn}
+use Rattle.ion.specs.Calls.Accepted.{Staged, Valid, Accepted, timeIn}
 use Rattle.ion.specs.declared.DateTime.{DateTime}
 use Rattle.ion.specs.declared.Fields.{Fields}
 use Rattle.ion.specs.declared.BuilderFields.{BuilderFields}
 use Rattle.ion.specs.declared.BuilderOffset.{BuilderOffset}
 use Rattle.ion.specs.declared.Timestamp.{Timestamp}
-use Rattle.calendar.proofs.Dates.{month-of, day-of}
 use Rattle.ion.proofs.Offsets.{raw-lt, back-within}
 use Rattle.packed.proofs.Words.{unpack-pack, pack-unpack, word-lt, word-low}
 use Rattle.builder.proofs.Checks.{zero-pass, pass-left, pass-right, numbered-append}
 use Rattle.builder.proofs.Bounds.{in-bounds, precision-le}
 use Rattle.builder.proofs.Routed.{ranges-numbered, route-numbered}
-use Rattle.builder.proofs.Times.{local-is}
+use Rattle.builder.proofs.Times.{fields-in-range, local-is}
 
 -- ---- what the builder gives
 
@@ -62,21 +59,6 @@ build-valid b s e =
 
 -- ---- valid fields
 
-pub valid-in-range : {f : Fields} {a : ℕ} → Valid f a → InRange f
-valid-in-range {f} v =
-    omega (
-      arith,
-      v .to-year,
-      month-of (dateIn f) (v .date),
-      day-of (dateIn f) (v .date),
-      v .hour,
-      v .minute,
-      v .second,
-      v .precision,
-      v .digits,
-      v .offset,
-    )
-
 -- the date and the time to the minute, and the offset
 pub valid-time : {f : Fields} {a : ℕ} → Valid f a → IsDateTime (timeIn f)
 valid-time v = record { date = v .date; hours = omega (arith, v .hour); minutes = omega (arith, v .minute) }
@@ -84,9 +66,9 @@ valid-time v = record { date = v .date; hours = omega (arith, v .hour); minutes 
 pub valid-offset : {f : Fields} {a : ℕ} → Valid f a → WithinDay (offsetOf (f .offset))
 valid-offset {f} v = back-within (f .offset) (v .offset)
 
--- with no digits there is no fraction
-pub no-fraction : {f : Fields} {a : ℕ} → Valid f a → f .digits ≡ 0 → a ≡ 0
-no-fraction {f} {a} v e = sym (mod-eq-of-lt (v .attoseconds)) ∙ ap (λ (d : ℕ). a % scale d) (sym e) ∙ v .multiple
+pub valid-in-range : {f : Fields} {a : ℕ} → Valid f a → InRange f
+valid-in-range {f} v =
+    fields-in-range f (valid-time v) (omega (arith, v .to-year)) (v .second) (v .precision) (v .digits) (v .offset)
 
 -- ---- accepted pairs
 
