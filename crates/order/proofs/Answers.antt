@@ -1,94 +1,47 @@
--- What is answered about two timestamps, by the number of their checks. Assumes nothing.
-use mathlib.Core.Path.{_≡_}
-use mathlib.Core.Bool.{false}
-use Prim.Native.Nat.{ℕ, _/_, _%_, _^_}
+-- The two checks before an answer about two timestamps, and the answers where both are accepted. Assumes nothing.
+use mathlib.Core.Path.{_≡_, sym, ap, _∙_}
+use Prim.Native.Nat.{ℕ}
 use native.Mathlib.Decide.{ℕ-discrete}
 use lib.Dec.{eqb}
-use lib.IntN.{pos}
-use borrow.Author.Tests.{eq-eqb, ne-eqb}
-use Rattle.ion.specs.Pair.Pair.{samePair}
-use Rattle.ion.specs.Calls.Check.{checkOf}
-use Rattle.ion.specs.Calls.Accepted.{Accepted}
 use Rattle.ion.specs.Pair.Count.{countOf}
-use Rattle.ion.specs.Calls.Order.{checkBoth, orderOf, ionOrder, sizeOfDifference, cmpOf, eqOf, ionEqOf, ionCmpOf, distanceOf}
+use Rattle.ion.specs.Calls.Answered.{answered}
+use Rattle.ion.specs.Calls.Check.{checkNumber}
+use Rattle.ion.specs.Calls.Accepted.{Accepted}
+use Rattle.ion.specs.Calls.Order.{checkBoth, orderOf, ordered, refusedOrder, cmpOf, compared, refusedCompared, eqOf}
+use Rattle.ion.specs.Calls.Order.{distanceOfCounts, refusedDistance, distanceOf}
 use Rattle.ion.specs.declared.Timestamp.{Timestamp}
-use Rattle.ion.specs.declared.Ordered.{Ordered}
-use Rattle.ion.specs.declared.Compared.{Compared}
-use Rattle.ion.specs.declared.Distance.{Distance}
+use Rattle.ion.proofs.Answers.{answered-zero, answered-refused}
 use Rattle.timestamp.proofs.Accepts.{check-gives, check-zero}
-use Rattle.timestamp.proofs.Told.{if-zero, if-refused}
-use Rattle.order.specs.Answers.{ordered, compared, distanceOfCounts}
+
+-- ---- both checks answer 0 where both timestamps are accepted, and nowhere else
 
 module _ (s t : Timestamp) where
-  -- ---- both checks answer 0 where both timestamps are accepted, and nowhere else
-
   pub both-zero : Accepted s → Accepted t → checkBoth s t ≡ 0
-  both-zero p q = simp (eq-eqb (checkOf s .number) 0 (check-zero s p)) (check-zero t q)
+  both-zero p q = answered-zero (checkNumber s) (checkNumber t) (λ n. n) (check-zero s p) ∙ check-zero t q
 
   pub both-accepted : checkBoth s t ≡ 0 → Accepted s × Accepted t
-  both-accepted e = go (ℕ-discrete (checkOf s .number) 0)
+  both-accepted e = go (ℕ-discrete (checkNumber s) 0)
     where
-      go : Dec (checkOf s .number ≡ 0) → Accepted s × Accepted t
-      go (yes h) = (check-gives s h, check-gives t (simp (eq-eqb (checkOf s .number) 0 h) at e))
-      go (no h) = absurd (h (simp (ne-eqb (checkOf s .number) 0 h) at e))
+      go : Dec (checkNumber s ≡ 0) → Accepted s × Accepted t
+      go (yes h) = (check-gives s h, check-gives t (sym (answered-zero (checkNumber s) (checkNumber t) (λ n. n) h) ∙ e))
+      go (no h) = absurd (h (sym (answered-refused (checkNumber s) (checkNumber t) (λ n. n) h) ∙ e))
 
-  -- ---- the answers
+-- a refusal with a number as it was answered
+pub refused-alone :
+    {A : Type 0} {n r : ℕ} (a : A) (refused : ℕ → A) → r ≡ n → (r ≡ 0 → ⊥) → refused r ≡ answered n a refused
+refused-alone {A} {n} {r} a refused e h = ap refused e ∙ sym (answered-refused n a refused (λ z. h (e ∙ z)))
 
-  module _ (e : checkBoth s t ≡ 0) where
-    pub cmp-zero : cmpOf s t ≡ ordered (orderOf (countOf s) (countOf t))
-    unfolding cmpOf
-    cmp-zero = λ i. record { number = e i; order = if-zero _ (orderOf (countOf s) (countOf t)) (pos 0) e i }
+-- ---- of accepted timestamps `cmp`, `==` and the distance are by the counts
 
-    pub ion-cmp-zero : ionCmpOf s t ≡ ordered (ionOrder s t)
-    unfolding ionCmpOf
-    ion-cmp-zero = λ i. record { number = e i; order = if-zero _ (ionOrder s t) (pos 0) e i }
+module _ (s t : Timestamp) (p : Accepted s) (q : Accepted t) where
+  pub cmp-counts : cmpOf s t ≡ ordered (orderOf (countOf s) (countOf t))
+  unfolding cmpOf
+  cmp-counts = answered-zero _ _ refusedOrder (both-zero s t p q)
 
-    pub eq-zero : eqOf s t ≡ compared (eqb (countOf s) (countOf t))
-    unfolding eqOf
-    eq-zero = λ i. record { number = e i; equal = if-zero _ (eqb (countOf s) (countOf t)) false e i }
+  pub eq-counts : eqOf s t ≡ compared (eqb (countOf s) (countOf t))
+  unfolding eqOf
+  eq-counts = answered-zero _ _ refusedCompared (both-zero s t p q)
 
-    pub ion-eq-zero : ionEqOf s t ≡ compared (samePair s t)
-    unfolding ionEqOf
-    ion-eq-zero = λ i. record { number = e i; equal = if-zero _ (samePair s t) false e i }
-
-    pub distance-zero : distanceOf s t ≡ distanceOfCounts (countOf s) (countOf t)
-    unfolding distanceOf
-    distance-zero =
-        let size = sizeOfDifference (countOf s) (countOf t) in
-        λ i.
-        record {
-          number = e i;
-          sign = if-zero _ (orderOf (countOf s) (countOf t)) (pos 0) e i;
-          seconds = if-zero _ (size / 10 ^ 18) 0 e i;
-          attoseconds = if-zero _ (size % 10 ^ 18) 0 e i;
-        }
-
-  -- a number alone, r, as it was answered
-  module _ {r : ℕ} (e : r ≡ checkBoth s t) (h : r ≡ 0 → ⊥) where
-    pub cmp-refused : _≡_ {A = Ordered} (record { number = r; order = pos 0 }) (cmpOf s t)
-    unfolding cmpOf
-    cmp-refused = λ i. record { number = e i; order = if-refused (orderOf (countOf s) (countOf t)) (pos 0) e h i }
-
-    pub ion-cmp-refused : _≡_ {A = Ordered} (record { number = r; order = pos 0 }) (ionCmpOf s t)
-    unfolding ionCmpOf
-    ion-cmp-refused = λ i. record { number = e i; order = if-refused (ionOrder s t) (pos 0) e h i }
-
-    pub eq-refused : _≡_ {A = Compared} (record { number = r; equal = false }) (eqOf s t)
-    unfolding eqOf
-    eq-refused = λ i. record { number = e i; equal = if-refused (eqb (countOf s) (countOf t)) false e h i }
-
-    pub ion-eq-refused : _≡_ {A = Compared} (record { number = r; equal = false }) (ionEqOf s t)
-    unfolding ionEqOf
-    ion-eq-refused = λ i. record { number = e i; equal = if-refused (samePair s t) false e h i }
-
-    pub distance-refused : _≡_ {A = Distance} (record { number = r; sign = pos 0; seconds = 0; attoseconds = 0 }) (distanceOf s t)
-    unfolding distanceOf
-    distance-refused =
-        let size = sizeOfDifference (countOf s) (countOf t) in
-        λ i.
-        record {
-          number = e i;
-          sign = if-refused (orderOf (countOf s) (countOf t)) (pos 0) e h i;
-          seconds = if-refused (size / 10 ^ 18) 0 e h i;
-          attoseconds = if-refused (size % 10 ^ 18) 0 e h i;
-        }
+  pub distance-counts : distanceOf s t ≡ distanceOfCounts (countOf s) (countOf t)
+  unfolding distanceOf
+  distance-counts = answered-zero _ _ refusedDistance (both-zero s t p q)

@@ -1,10 +1,10 @@
--- The local minutes and seconds of valid fields. Assumes nothing.
+-- Local fields, and their whole seconds by a clock that is ahead of the local one. Assumes nothing.
 use Prim.Native.Nat.{ℕ, _+_, _*_, _≤_, _<_}
-use lib.IntN.{ℤ, pos, negℤ, natAbs, _-ℤ_}
+use lib.IntN.{ℤ, pos, natAbs, _-ℤ_}
 use Rattle.integers.specs.Floor.{_plus_}
 use Rattle.ion.specs.Calendar.Shift.{IsDateTime, minuteNumber}
 use Rattle.ion.specs.Calls.Accepted.{timeIn}
-use Rattle.ion.specs.Pair.Count.{attosecondsIn, offsetIn}
+use Rattle.ion.specs.Pair.Count.{offsetIn}
 use Rattle.ion.specs.declared.Fields.{Fields}
 use Rattle.order.specs.declared.seconds.Seconds.{Seconds}
 
@@ -20,10 +20,6 @@ pub record IsLocalFields (f : Fields) : Type 0 where
 abbrev pub secondsAt : Fields → ℤ → ℕ
 secondsAt f z = (minuteNumber (timeIn f) plus z) * 60 + f .second
 
--- whole seconds in UTC
-abbrev pub utcSeconds : Fields → ℕ
-utcSeconds f = secondsAt f (negℤ (offsetIn f))
-
 -- how many minutes the local clock of the first is ahead of that of the second
 abbrev pub offsetDifference : Fields → Fields → ℤ
 offsetDifference f g = offsetIn f -ℤ offsetIn g
@@ -31,7 +27,3 @@ offsetDifference f g = offsetIn f -ℤ offsetIn g
 -- the whole seconds of the two by the local clock of the first
 abbrev pub secondsOfBoth : Fields → Fields → Seconds
 secondsOfBoth f g = record { first = secondsAt f (pos 0); second = secondsAt g (offsetDifference f g) }
-
--- attoseconds from 0000-01-01T00:00 by the local clock
-abbrev pub localCount : Fields → ℕ → ℕ
-localCount f a = attosecondsIn (minuteNumber (timeIn f)) (f .second) a

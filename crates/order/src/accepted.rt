@@ -7,10 +7,12 @@ use ion::Timestamp;
 ghost use mathlib.Core.Path.{_≡_};
 ghost use Rattle.ion.specs.Calls.Accepted.{Accepted};
 ghost use Rattle.ion.specs.Pair.Count.{countOf};
-ghost use Rattle.ion.specs.Calls.Order.{orderOf};
-ghost use Rattle.order.specs.Answers.{distanceOfCounts};
+ghost use Rattle.ion.specs.Calls.Order.{orderOf, distanceOfCounts};
 
-// -1, 0 or 1. With the same offset no day is counted: the words above their precision lie as the instants do.
+// Where the second stands in a packed word, with the date and time above it.
+const SECOND_SHIFT: u64 = 24;
+
+// -1, 0 or 1. With the same offset no day is counted: the words cut at the second lie as the instants do.
 pub(crate) fn order_of(s: Timestamp, t: Timestamp) -> i32
     requires { ⌜ Accepted s × Accepted t ⌝ }
     ensures { λ r. ⌜ r ≡ orderOf (countOf s) (countOf t) ⌝ }
@@ -20,12 +22,18 @@ pub(crate) fn order_of(s: Timestamp, t: Timestamp) -> i32
     let o = packed::raw_offset(v);
     let p = packed::raw_offset(w);
     if o.bits() == p.bits() {
-        return order_of_pairs(v >> 24, s.attoseconds, w >> 24, t.attoseconds);
+        return order_of_pairs(
+            v >> SECOND_SHIFT,
+            s.attoseconds,
+            w >> SECOND_SHIFT,
+            t.attoseconds,
+        );
     }
     let seconds = seconds_of_both(s, t);
     order_of_pairs(seconds.first, s.attoseconds, seconds.second, t.attoseconds)
 }
 
+// The distance, by one clock.
 pub(crate) fn distance_of(s: Timestamp, t: Timestamp) -> Distance
     requires { ⌜ Accepted s × Accepted t ⌝ }
     ensures { λ r. ⌜ r ≡ distanceOfCounts (countOf s) (countOf t) ⌝ }

@@ -1,11 +1,9 @@
-// Order and distance of two counts, each as two numbers.
+// Order and distance of two counts, each as whole seconds and the attoseconds after them.
 use ion::Distance;
 use ion::MAX_ATTOSECONDS;
 ghost use mathlib.Core.Path.{_≡_};
 ghost use Prim.Native.Nat.{_+_, _*_, _^_, _≤_, _<_};
-ghost use Rattle.ion.specs.Calls.Order.{sizeOfDifference};
-ghost use Rattle.order.specs.Answers.{distant, distanceOfCounts};
-ghost use Rattle.order.specs.Counts.{orderOfPairs};
+ghost use Rattle.ion.specs.Calls.Order.{sizeOfDifference, distant, distanceOfCounts, orderOfPairs};
 
 // -1, 0 or 1, by the first numbers and then by the second.
 pub(crate) fn order_of_pairs(m: u64, a: u64, n: u64, b: u64) -> i32
@@ -26,7 +24,7 @@ pub(crate) fn order_of_pairs(m: u64, a: u64, n: u64, b: u64) -> i32
     0
 }
 
-// The distance with a sign told, of seconds and attoseconds of which the first are not earlier.
+// The distance with a given sign, of two counts of which the first is not earlier.
 fn distance_by(sign: i32, m: u64, a: u64, n: u64, b: u64) -> Distance
     requires { ⌜ (a < 10 ^ 18) × (b < 10 ^ 18) × (n * 10 ^ 18 + b ≤ m * 10 ^ 18 + a) ⌝ }
     ensures { λ r. ⌜ r ≡ distant sign (sizeOfDifference (m * 10 ^ 18 + a) (n * 10 ^ 18 + b)) ⌝ }
@@ -47,7 +45,7 @@ fn distance_by(sign: i32, m: u64, a: u64, n: u64, b: u64) -> Distance
     }
 }
 
-// The distance of two counts of seconds and attoseconds.
+// The distance of two counts, of which either may be the earlier.
 pub(crate) fn distance_of_counts(m: u64, a: u64, n: u64, b: u64) -> Distance
     requires { ⌜ (a < 10 ^ 18) × (b < 10 ^ 18) ⌝ }
     ensures { λ r. ⌜ r ≡ distanceOfCounts (m * 10 ^ 18 + a) (n * 10 ^ 18 + b) ⌝ }

@@ -13,7 +13,7 @@ use ion::Timestamp;
 ghost use mathlib.Core.Path.{_≡_};
 ghost use Rattle.ion.specs.Calls.Order.{checkBoth, cmpOf, eqOf, ionEqOf, ionCmpOf, distanceOf};
 
-// The first number of the two checks that is not 0.
+// The first number of the two checks that is not 0; 0 where both timestamps are accepted.
 fn check_both(s: Timestamp, t: Timestamp) -> u32
     ensures { λ r. ⌜ r ≡ checkBoth s t ⌝ }
 {

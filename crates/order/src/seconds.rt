@@ -1,4 +1,4 @@
-// Whole seconds of two timestamps by one clock: offsets are subtracted between the two.
+// Whole seconds of two timestamps by the local clock of the first: the difference of their offsets is added to the second.
 use ion::Date;
 use ion::Fields;
 use ion::Timestamp;
@@ -21,7 +21,8 @@ pub(crate) struct Seconds {
 // Minutes from 0000-01-01T00:00 by the local clock.
 fn minute_number(f: Fields) -> u64
     requires { ⌜ IsLocalFields f ⌝ }
-    ensures { λ r. ⌜ (r ≡ minuteNumber (timeIn f)) × (r < 2 ^ 33) ⌝ }
+    ensures { λ r. ⌜ r ≡ minuteNumber (timeIn f) ⌝ }
+    ensures { λ r. ⌜ r < 2 ^ 33 ⌝ }
 {
     let date = Date {
         year: f.year,
@@ -50,7 +51,7 @@ fn seconds_at(f: Fields, ahead: i32) -> u64
     minutes * 60 + f.second as u64
 }
 
-// Those of two accepted timestamps, by the local clock of the first.
+// Those of two accepted timestamps.
 pub(crate) fn seconds_of_both(s: Timestamp, t: Timestamp) -> Seconds
     requires { ⌜ Accepted s × Accepted t ⌝ }
     ensures { λ r. ⌜ r ≡ secondsOfBoth (fieldsOf (wordIn s)) (fieldsOf (wordIn t)) ⌝ }

@@ -1,4 +1,3 @@
-pub mod CountFields
-pub mod Counts
+pub mod UtcCounts
 pub mod Bytes
 pub mod TwoStamps

@@ -3,16 +3,18 @@ use mathlib.Core.Path.{_≡_, sym, ap, ap₂, _∙_}
 use mathlib.Core.Logic.{⊎-elim}
 use mathlib.Core.Bool.{true}
 use mathlib.Core.List.{List, [], _++_, append-nil}
-use Prim.Native.Nat.{ℕ}
-use borrow.Author.Tests.{eq-eqb, eqb-true}
+use Prim.Native.Nat.{ℕ, _^_}
+use native.Mathlib.Nat.{div-add-mod', mod-lt}
+use lib.Dec.{lit<}
 use lib.IntN.{pos, natAbs, _-ℤ_}
+use borrow.Author.Tests.{eq-eqb, eqb-true}
 use Rattle.ion.specs.Pair.Pair.{wordIn}
 use Rattle.ion.specs.Calls.Build.{buildOf}
 use Rattle.ion.specs.Calls.Stages.{Stage, Gives}
 use Rattle.ion.specs.Calls.Check.{checkOf}
 use Rattle.ion.specs.Calls.Accepted.{Accepted}
 use Rattle.ion.specs.Pair.Count.{countOf}
-use Rattle.ion.specs.Calls.Order.{checkBoth, cmpOf, eqOf, distanceOf}
+use Rattle.ion.specs.Calls.Order.{orderOf, sizeOfDifference, cmpOf, eqOf, distanceOf}
 use Rattle.ion.specs.Text.Format.{textOf}
 use Rattle.ion.specs.Value.Encode.{valueOf}
 use Rattle.ion.specs.Value.ReadValue.{readValue}
@@ -21,14 +23,11 @@ use Rattle.ion.specs.declared.Timestamp.{Timestamp}
 use Rattle.ion.specs.declared.Read.{Read}
 use Rattle.ion.specs.declared.Built.{Built}
 use Rattle.timestamp.proofs.Accepts.{check-gives, check-accepts, built-checks}
-use Rattle.order.proofs.Answers.{both-zero}
-use Rattle.order.proofs.TimeOrder.{sign-is, equal-is}
-use Rattle.order.proofs.Distances.{IsDistance, distance-leads}
+use Rattle.order.proofs.Answers.{cmp-counts, eq-counts, distance-counts}
 use Rattle.timestamp_binary.proofs.Values as values
 use Rattle.timestamp_binary.proofs.Readings.{value-apart, value-injective}
 use Rattle.theorem.specs.TwoStamps.{utcCount, SignOf, Differ, TwoStamps}
-use Rattle.theorem.proofs.CountFields.{count-exact}
-use Rattle.theorem.proofs.Counts.{order-sign}
+use Rattle.theorem.proofs.UtcCounts.{count-exact, order-sign}
 use Rattle.theorem.proofs.Bytes.{writes, reads-back}
 use Rattle.timestamp_text.proofs.Distinct.{text-inj}
 
@@ -51,18 +50,15 @@ beginning-same : (s t : Timestamp) → Accepted s → Accepted t → (r : List �
 beginning-same s t p q r e = value-apart s t p q r [] (e ∙ sym (append-nil (valueOf t)))
 
 module _ (a b : Timestamp) (p : Accepted a) (q : Accepted b) where
-  both : checkBoth a b ≡ 0
-  both = both-zero a b p q
-
-  distance : IsDistance a b (distanceOf a b)
-  distance = distance-leads a b p q
+  abbrev size : ℕ
+  size = sizeOfDifference (countOf a) (countOf b)
 
   -- the signed difference of the counts
   difference : pos (countOf a) -ℤ pos (countOf b) ≡ utcCount a -ℤ utcCount b
   difference = ap₂ _-ℤ_ (count-exact a p) (count-exact b q)
 
-  cmp-exact : SignOf (cmpOf a b .order) (utcCount a -ℤ utcCount b)
-  cmp-exact = rw (sign-is a b p q, ← difference) (order-sign (countOf a) (countOf b))
+  sign-exact : SignOf (orderOf (countOf a) (countOf b)) (utcCount a -ℤ utcCount b)
+  sign-exact = rw (← difference) (order-sign (countOf a) (countOf b))
 
   same-count : utcCount a ≡ utcCount b → countOf a ≡ countOf b
   same-count e =
@@ -71,34 +67,22 @@ module _ (a b : Timestamp) (p : Accepted a) (q : Accepted b) where
 
   eq-exact : (eqOf a b .equal ≡ true → utcCount a ≡ utcCount b) × (utcCount a ≡ utcCount b → eqOf a b .equal ≡ true)
   eq-exact =
-      rw (equal-is a b p q) (
+      rw (eq-counts a b p q) (
         (λ e. sym (count-exact a p) ∙ ap pos (eqb-true (countOf a) (countOf b) e) ∙ count-exact b q),
         (λ e. eq-eqb (countOf a) (countOf b) (same-count e)),
       )
-
-  accepted-distance : distanceOf a b .number ≡ 0
-  unfolding distanceOf
-  accepted-distance = both
-
-  accepted-cmp : cmpOf a b .number ≡ 0
-  unfolding cmpOf
-  accepted-cmp = both
-
-  accepted-eq : eqOf a b .number ≡ 0
-  unfolding eqOf
-  accepted-eq = both
 
   together : TwoStamps a b
   together =
       record {
         count-exact = (count-exact a p, count-exact b q);
-        distance-accepted = accepted-distance;
-        distance-exact = distance .size ∙ ap natAbs difference;
-        distance-parts = distance .below;
-        distance-sign = rw (distance .sign) cmp-exact;
-        cmp-accepted = accepted-cmp;
-        cmp-exact = cmp-exact;
-        eq-accepted = accepted-eq;
+        distance-accepted = rw (distance-counts a b p q);
+        distance-exact = rw (distance-counts a b p q) (div-add-mod' size (10 ^ 18) ∙ ap natAbs difference);
+        distance-parts = rw (distance-counts a b p q) (mod-lt size (lit< tt));
+        distance-sign = rw (distance-counts a b p q) sign-exact;
+        cmp-accepted = rw (cmp-counts a b p q);
+        cmp-exact = rw (cmp-counts a b p q) sign-exact;
+        eq-accepted = rw (eq-counts a b p q);
         eq-exact = eq-exact;
         pair-back = (check-accepts a p, check-accepts b q);
         value-back = (reads-back a p, reads-back b q);

@@ -14,7 +14,7 @@ use Rattle.ion.specs.declared.Distance.{Distance}
 
 -- the first number that is not 0
 abbrev pub checkBoth : Timestamp → Timestamp → ℕ
-checkBoth s t = cond (eqb (checkNumber s) 0) (checkNumber t) (checkNumber s)
+checkBoth s t = answered (checkNumber s) (checkNumber t) (λ n. n)
 
 -- ---- order: -1, 0 or 1
 

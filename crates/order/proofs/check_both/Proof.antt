@@ -1,21 +1,20 @@
 -- `order::check_both` meets its contract. Assumes nothing.
 use mathlib.Core.Path.{_≡_, sym, _∙_}
-use mathlib.Core.Bool.{true, false}
+use mathlib.Core.Bool.{true}
 use lib.Dec.{eqb}
 use borrow.Author.Needs.{needs}
 use borrow.Author.Tests.{eqb-true, not-true, not-false}
-use Rattle.ion.specs.Calls.Check.{checkOf}
+use Rattle.ion.specs.Calls.Check.{checkNumber}
 use Rattle.order.proofs.check_both.Statement.{statement}
 use Rattle.order.proofs.check_both.Tie as tie
 
 returns : tie.Need-returns
 returns c =
     let e1 = c .before in
-    let e : eqb (checkOf (e1 .before .before .args .s) .number) 0 ≡ false = sym (e1 .before .is-accepted .ensures) ∙ not-true _ (e1 .if1 .taken) in
-    simp e (c .check-number .ensures)
+    simp (sym (e1 .before .is-accepted .ensures) ∙ not-true _ (e1 .if1 .taken)) (c .check-number .ensures)
 
 -- the first is accepted
-first : (c : tie.Else1) → eqb (checkOf (c .before .before .args .s) .number) 0 ≡ true
+first : (c : tie.Else1) → eqb (checkNumber (c .before .before .args .s)) 0 ≡ true
 first c = sym (c .before .is-accepted .ensures) ∙ not-false _ (c .if1 .left)
 
 returns-2 : tie.Need-returns-2

@@ -1,13 +1,15 @@
 -- `order::distance` meets its contract. Assumes nothing.
 use mathlib.Core.Path.{_≡_, sym, _∙_}
 use borrow.Author.Needs.{needs}
-use Rattle.ion.specs.Calls.Order.{checkBoth}
-use Rattle.order.proofs.Answers.{both-accepted, distance-zero, distance-refused}
+use Rattle.ion.specs.Calls.Order.{checkBoth, refusedDistance, distanceOf}
+use Rattle.ion.proofs.Answers.{answered-zero}
+use Rattle.order.proofs.Answers.{both-accepted, refused-alone}
 use Rattle.order.proofs.distance.Statement.{statement}
 use Rattle.order.proofs.distance.Tie as tie
 
 returns : tie.Need-returns
-returns c = distance-refused _ _ (c .before .check-both .ensures) (c .if1 .taken)
+unfolding distanceOf
+returns c = refused-alone _ refusedDistance (c .before .check-both .ensures) (c .if1 .taken)
 
 -- both checks have answered 0
 zero : (c : tie.Else1) → let x = c .before .before .args in checkBoth (x .s) (x .t) ≡ 0
@@ -17,7 +19,8 @@ distance-of-requires : tie.Need-distance-of-requires
 distance-of-requires c κs = both-accepted _ _ (zero c)
 
 returns-2 : tie.Need-returns-2
-returns-2 c = c .distance-of .ensures ∙ sym (distance-zero _ _ (zero (c .before)))
+unfolding distanceOf
+returns-2 c = c .distance-of .ensures ∙ sym (answered-zero _ _ refusedDistance (zero (c .before)))
 
 pub distance-spec : {M : Type 1} → statement M
 distance-spec = tie.close (tie.spec (λ c κs. search needs) returns distance-of-requires returns-2)

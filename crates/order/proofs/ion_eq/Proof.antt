@@ -1,20 +1,21 @@
 -- `order::ion_eq` meets its contract. Assumes nothing.
-use mathlib.Core.Path.{_≡_, sym, _∙_}
+use mathlib.Core.Path.{sym, _∙_}
 use borrow.Author.Needs.{needs}
-use Rattle.ion.specs.Calls.Order.{checkBoth}
-use Rattle.order.proofs.Answers.{ion-eq-zero, ion-eq-refused}
+use Rattle.ion.specs.Calls.Order.{refusedCompared, ionEqOf}
+use Rattle.ion.proofs.Answers.{answered-zero}
+use Rattle.order.proofs.Answers.{refused-alone}
 use Rattle.order.proofs.ion_eq.Statement.{statement}
 use Rattle.order.proofs.ion_eq.Tie as tie
 
 returns : tie.Need-returns
-returns c = ion-eq-refused _ _ (c .before .check-both .ensures) (c .if1 .taken)
-
--- both checks have answered 0
-zero : (c : tie.Else1) → let x = c .before .before .args in checkBoth (x .s) (x .t) ≡ 0
-zero c = sym (c .before .check-both .ensures) ∙ c .if1 .left
+unfolding ionEqOf
+returns c = refused-alone _ refusedCompared (c .before .check-both .ensures) (c .if1 .taken)
 
 returns-2 : tie.Need-returns-2
-returns-2 c = sym (ion-eq-zero _ _ (zero (c .before .before .before .before)))
+unfolding ionEqOf
+returns-2 c =
+    let e1 = c .before .before .before .before in
+    sym (answered-zero _ _ refusedCompared (sym (e1 .before .check-both .ensures) ∙ e1 .if1 .left))
 
 pub ion-eq-spec : {M : Type 1} → statement M
 ion-eq-spec = tie.close (tie.spec (λ c κs. search needs) returns returns-2)

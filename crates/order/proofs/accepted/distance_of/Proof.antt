@@ -1,10 +1,6 @@
 -- `order::accepted::distance_of` meets its contract. Assumes nothing.
-use mathlib.Core.Path.{ap, _∙_}
-use Prim.Native.Nat.{_+_, _*_, _^_}
 use borrow.Author.Needs.{needs}
 use Rattle.ion.specs.Pair.Count.{countOf}
-use Rattle.order.specs.declared.seconds.Seconds.{Seconds}
-use Rattle.order.specs.Answers.{distanceOfCounts}
 use Rattle.order.proofs.Clocks.{valid-local, distance-is}
 use Rattle.order.proofs.accepted.distance_of.Statement.{statement}
 use Rattle.order.proofs.accepted.distance_of.Tie as tie
@@ -16,13 +12,10 @@ returns : tie.Need-returns
 unfolding countOf
 returns c =
     let x = c .before .before in
-    let a = x .args .s .attoseconds in
-    let b = x .args .t .attoseconds in
-    let p = x .pre .0 .fields in
-    let q = x .pre .1 .fields in
-    c .distance-of-counts .ensures
-    ∙ ap (λ (r : Seconds). distanceOfCounts (r .first * 10 ^ 18 + a) (r .second * 10 ^ 18 + b)) (c .before .seconds-of-both .ensures)
-    ∙ distance-is _ _ (valid-local p) (valid-local q) a b (p .attoseconds) (q .attoseconds)
+    let p = valid-local (x .pre .0 .fields) in
+    let q = valid-local (x .pre .1 .fields) in
+    let e = distance-is _ _ p q (x .args .s .attoseconds) (x .args .t .attoseconds) in
+    rw (c .before .seconds-of-both .ensures, e) at (c .distance-of-counts .ensures)
 
 pub distance-of-spec : {M : Type 1} → statement M
 distance-of-spec = tie.close (tie.spec (λ c κs. search needs) distance-of-counts-requires returns)

@@ -6,10 +6,8 @@ use Rattle.ion.specs.Pair.Pair.{wordIn}
 use Rattle.ion.specs.Pair.Word.{fieldsOf}
 use Rattle.ion.specs.Pair.Count.{countOf}
 use Rattle.ion.specs.declared.offset.RawOffset.{RawOffset}
-use Rattle.order.specs.declared.seconds.Seconds.{Seconds}
-use Rattle.order.specs.Counts.{orderOfPairs}
 use Rattle.order.proofs.Clocks.{valid-local, order-is}
-use Rattle.order.proofs.Words.{cut-order}
+use Rattle.order.proofs.WordOrder.{cut-order}
 use Rattle.order.proofs.accepted.order_of.Statement.{statement}
 use Rattle.order.proofs.accepted.order_of.Tie as tie
 
@@ -33,24 +31,15 @@ returns-2 : tie.Need-returns-2
 unfolding countOf
 returns-2 c =
     let x = c .before .before .before .before .before .before .before in
-    let a = x .args .s .attoseconds in
-    let b = x .args .t .attoseconds in
     let p = x .pre .0 .fields in
     let q = x .pre .1 .fields in
-    toZ-ofZ (sfits-of (c .order-of-pairs2 .ok)) ∙ c .order-of-pairs2 .ensures
-    ∙ ap (λ (r : Seconds). orderOfPairs (r .first) a (r .second) b) (c .before .seconds-of-both .ensures)
-    ∙ order-is _ _ (valid-local p) (valid-local q) a b (p .attoseconds) (q .attoseconds)
+    let a = x .args .s .attoseconds in
+    let b = x .args .t .attoseconds in
+    let e = order-is _ _ (valid-local p) (valid-local q) a b (p .attoseconds) (q .attoseconds) in
+    toZ-ofZ (sfits-of (c .order-of-pairs2 .ok)) ∙ (rw (c .before .seconds-of-both .ensures, e) at (c .order-of-pairs2 .ensures))
 
 pub order-of-spec : {M : Type 1} → statement M
 order-of-spec =
     tie.close
-    (tie.spec
-    (λ c κs. search needs)
-    (λ c κs. search needs)
-    (λ c κs. search needs)
-    (λ c κs. search needs)
-    (λ c κs. search needs)
-    returns
-    (λ c κs. search needs)
-    (λ c κs. search needs)
-    returns-2)
+    (tie.spec (λ c κs. search needs) (λ c κs. search needs) (λ c κs. search needs) (λ c κs. search needs) (λ c κs. search needs)
+    returns (λ c κs. search needs) (λ c κs. search needs) returns-2)

@@ -3,7 +3,7 @@ use Prim.Native.Nat.{_+_, _-_, _^_, _≤_, _<_}
 use native.Mathlib.Omega.{arith}
 use mir.Facts.{toZ-ofZ}
 use borrow.Author.Needs.{needs}
-use Rattle.order.proofs.Differences.{whole-le, whole-lt, size-plain, size-borrowed, size-parts}
+use Rattle.order.proofs.CountsInSeconds.{whole-le, whole-lt, size-plain, size-borrowed, size-parts}
 use Rattle.order.proofs.counts.distance_by.Statement.{statement}
 use Rattle.order.proofs.counts.distance_by.Tie as tie
 

@@ -1,16 +1,14 @@
 -- `order::counts::distance_of_counts` meets its contract. Assumes nothing.
-use mathlib.Core.Path.{_≡_, ap, ap₂, _∙_}
+use mathlib.Core.Path.{_≡_, _∙_}
 use Prim.Native.Nat.{ℕ, _+_, _*_, _^_, _≤_, _<_}
 use native.Mathlib.Nat.{le-of-lt}
-use lib.IntN.{ℤ}
 use mir.Syntax.{w32}
 use mir.Val.{toZ, ofZ}
 use mir.Facts.{toZ-ofZ}
 use borrow.Author.Needs.{needs, sfits-of}
-use Rattle.ion.specs.Calls.Order.{orderOf, sizeOfDifference}
-use Rattle.order.specs.Answers.{distant}
+use Rattle.ion.specs.Calls.Order.{orderOf}
 use Rattle.order.proofs.Orders.{order-negative, order-not-negative}
-use Rattle.order.proofs.Differences.{pairs-count, size-sym}
+use Rattle.order.proofs.CountsInSeconds.{pairs-count, size-sym}
 use Rattle.order.proofs.counts.distance_of_counts.Statement.{statement}
 use Rattle.order.proofs.counts.distance_of_counts.Tie as tie
 
@@ -26,7 +24,8 @@ module _ (c : tie.After-order-of-pairs) where
   sign =
       let x = c .before .args in
       let p = c .before .pre in
-      toZ-ofZ (sfits-of (c .order-of-pairs .ok)) ∙ c .order-of-pairs .ensures ∙ pairs-count (10 ^ 18) (x .m) (x .n) (x .a) (x .b) (p .0) (p .1)
+      toZ-ofZ (sfits-of (c .order-of-pairs .ok)) ∙ c .order-of-pairs .ensures
+      ∙ pairs-count (10 ^ 18) (x .m) (x .n) (x .a) (x .b) (p .0) (p .1)
 
 earlier : (c : tie.Then1) → first (c .before) < second (c .before)
 earlier c =
@@ -44,15 +43,13 @@ distance-by-requires c κs = let p = c .before .before .pre in (p .1, p .0, le-o
 returns : tie.Need-returns
 returns c =
     let b = c .before .before in
-    c .distance-by .ensures ∙ ap₂ distant (sign b) (size-sym (second b) (first b))
+    rw (sign b, size-sym (second b) (first b)) at (c .distance-by .ensures)
 
 distance-by-requires-2 : tie.Need-distance-by-requires-2
 distance-by-requires-2 c κs = let p = c .before .before .pre in (p .0, p .1, not-earlier c)
 
 returns-2 : tie.Need-returns-2
-returns-2 c =
-    let b = c .before .before in
-    c .distance-by2 .ensures ∙ ap (λ (z : ℤ). distant z (sizeOfDifference (first b) (second b))) (sign b)
+returns-2 c = rw (sign (c .before .before)) at (c .distance-by2 .ensures)
 
 pub distance-of-counts-spec : {M : Type 1} → statement M
 distance-of-counts-spec =

@@ -23,7 +23,9 @@ offset-difference-requires : tie.Need-offset-difference-requires
 offset-difference-requires c κs = (first (c .before), second c)
 
 -- the minutes, read back from their bits
-ahead : (c : tie.After-offset-difference) → toZ w32 (ofZ w32 (c .offset-difference .result)) ≡ offsetDifference (c .before .before .unpack .result) (c .before .unpack2 .result)
+ahead :
+    (c : tie.After-offset-difference) →
+    toZ w32 (ofZ w32 (c .offset-difference .result)) ≡ offsetDifference (c .before .before .unpack .result) (c .before .unpack2 .result)
 ahead c = toZ-ofZ (sfits-of (c .offset-difference .ok)) ∙ c .offset-difference .ensures
 
 seconds-at-requires : tie.Need-seconds-at-requires
@@ -46,4 +48,5 @@ returns c =
 
 pub seconds-of-both-spec : {M : Type 1} → statement M
 seconds-of-both-spec =
-    tie.close (tie.spec (λ c κs. search needs) (λ c κs. search needs) offset-difference-requires seconds-at-requires seconds-at-requires-2 returns)
+    tie.close
+    (tie.spec (λ c κs. search needs) (λ c κs. search needs) offset-difference-requires seconds-at-requires seconds-at-requires-2 returns)
