@@ -12,7 +12,7 @@ use Rattle.ion.specs.Calendar.Dates.{isLeap, monthLengthOf, sumBelow}
 use Rattle.ion.specs.Pair.Offset.{rawOffset}
 use Rattle.ion.specs.Pair.Word.{wordOf, fieldsOf}
 use Rattle.ion.specs.Pair.Pair.{wordIn, packedPair}
-use Rattle.ion.specs.Calls.Build.{buildNumber, buildPair}
+use Rattle.ion.specs.Calls.Build.{buildOf, buildNumber, buildPair}
 use Rattle.ion.specs.Calls.Check.{checkOf}
 use Rattle.ion.specs.Calls.Accepted.{Accepted}
 use Rattle.ion.specs.Pair.Count.{countOf}
@@ -103,5 +103,5 @@ sixth digits a =
 pub stored-is-not-time :
     (cmpOf (sixth 1 (5 * 10 ^ 17)) (sixth 2 (1 * 10 ^ 17)) ≡ ordered (pos 1))
     × (ionCmpOf (sixth 1 (5 * 10 ^ 17)) (sixth 2 (1 * 10 ^ 17)) ≡ ordered (negsuc 0))
-unfolding wordOf fieldsOf checkOf buildNumber buildPair countOf cmpOf ionCmpOf isLeap monthLengthOf sumBelow
+unfolding wordOf fieldsOf checkOf buildOf buildNumber buildPair countOf cmpOf ionCmpOf isLeap monthLengthOf sumBelow
 stored-is-not-time = (refl, refl)
