@@ -12,7 +12,7 @@ use Rattle.ion.specs.Text.Format.{textOf}
 use Rattle.ion.specs.Value.Encode.{bodyOf, header, valueOf}
 use Rattle.ion.specs.Value.ReadValue.{readValue}
 use Rattle.ion.specs.Calls.Stamps.{lineOf, stopLine, linesOf, outputOf}
-use Rattle.timestamp_binary.proofs.Readings.{read-is}
+use Rattle.value_reader.proofs.Readings.{read-is}
 use Rattle.timestamp_binary.proofs.Lengths.{value-some}
 
 -- a value takes at least three bytes

@@ -13,7 +13,7 @@ use Rattle.ion.specs.Value.ReadValue.{readValue}
 use Rattle.ion.specs.Calls.Stamps.{lineOf, stopLine}
 use Rattle.output.proofs.Stores.{drop-over, length-over}
 use Rattle.output.proofs.Runs.{run-front}
-use Rattle.timestamp_binary.proofs.Readings.{read-is}
+use Rattle.value_reader.proofs.Readings.{read-is}
 use Rattle.listing.proofs.Lines.{lines, taken-some, lines-none, next-line, last-line}
 
 -- of the input the first `at` bytes are listed, in the first `end` bytes of e, which was d

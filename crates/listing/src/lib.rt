@@ -18,7 +18,7 @@ pub fn list(input: &[u8], out: &mut [u8]) -> usize
     let mut at = 0;
     let mut end = 0;
     while at < input.len() {
-        let r = timestamp_binary::read_value(&input[at..]);
+        let r = value_reader::read_value(&input[at..]);
         let number = r.number;
         if number != 0 {
             return line::put_stop(out, end, number);

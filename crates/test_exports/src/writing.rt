@@ -48,7 +48,7 @@ pub extern "C" fn timestamp_read(
     ensures { λ r. ⌜ ReadIs (readValue (now (input .entry))) r (now (word .exit)) (now (attoseconds .exit)) (now (taken .exit)) ⌝ }
 {
     store_read(
-        timestamp_binary::read_value(input),
+        value_reader::read_value(input),
         word,
         attoseconds,
         taken,

@@ -32,5 +32,5 @@ pub(crate) fn read_agrees(r: &[u8]) -> bool
         stamp: pair_at(r, 1),
         taken: count_at(r, 17),
     };
-    same_read(timestamp_binary::read_value(&r[19..]), answer)
+    same_read(value_reader::read_value(&r[19..]), answer)
 }

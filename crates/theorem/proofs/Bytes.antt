@@ -10,7 +10,7 @@ use Rattle.ion.specs.declared.Timestamp.{Timestamp}
 use Rattle.ion.specs.declared.Written.{Written}
 use Rattle.output.proofs.Stores.{room-fits, put-fits, has-room, wrote-passed, put-passed, put-there}
 use Rattle.timestamp.proofs.Accepts.{check-zero}
-use Rattle.timestamp_binary.proofs.Values as values
+use Rattle.value_reader.proofs.Values as values
 use Rattle.theorem.specs.TwoStamps.{Writes, ReadsBack}
 
 module _ (s : Timestamp) (p : Accepted s) where

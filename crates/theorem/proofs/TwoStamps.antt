@@ -24,8 +24,8 @@ use Rattle.ion.specs.declared.Read.{Read}
 use Rattle.ion.specs.declared.Built.{Built}
 use Rattle.timestamp.proofs.Accepts.{check-gives, check-accepts, built-checks}
 use Rattle.order.proofs.Answers.{cmp-counts, eq-counts, distance-counts}
-use Rattle.timestamp_binary.proofs.Values as values
-use Rattle.timestamp_binary.proofs.Readings.{value-apart, value-injective}
+use Rattle.value_reader.proofs.Values as values
+use Rattle.value_reader.proofs.Readings.{value-apart, value-injective}
 use Rattle.theorem.specs.TwoStamps.{utcCount, SignOf, Differ, TwoStamps}
 use Rattle.theorem.proofs.UtcCounts.{count-exact, order-sign}
 use Rattle.theorem.proofs.Bytes.{writes, reads-back}

@@ -1,15 +1,3 @@
-pub mod DecodeBack
-pub mod DecodeIs
-pub mod UtcBody
-pub mod LocalFields
+pub mod BodyRuns
 pub mod Lengths
-pub mod Values
-pub mod Readings
-pub mod FieldRuns
-pub mod FractionRuns
-pub mod BodyParts
-pub mod HeaderStored
-pub mod FieldSteps
-pub mod PartsTested
-pub mod PartsReadings
-pub mod ReadSteps
+pub mod Headers

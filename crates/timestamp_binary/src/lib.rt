@@ -1,8 +1,5 @@
-// Values of timestamps in Ion binary, written and read.
-mod decoder;
+// Values of timestamps in Ion binary, written.
 mod encoder;
-mod reader;
 
 pub use encoder::encode_timestamp;
 pub use encoder::encode_timestamp_value;
-pub use reader::read_value;

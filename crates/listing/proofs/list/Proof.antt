@@ -12,7 +12,7 @@ use Rattle.ion.specs.Value.ReadValue.{readValue}
 use Rattle.ion.specs.Calls.Stamps.{stopLine, lineOf}
 use Rattle.ion.specs.Text.Format.{textOf}
 use Rattle.ion.specs.declared.Read.{Read}
-use Rattle.timestamp_binary.proofs.Readings.{read-is}
+use Rattle.value_reader.proofs.Readings.{read-is}
 use Rattle.listing.proofs.Lines.{taken-some, output-long, output-lines}
 use Rattle.listing.proofs.Numbers.{read-number}
 use Rattle.listing.proofs.Listed.{Listed, start, line-room, taken-fits, next, stop, finish}

@@ -12,7 +12,7 @@ use Rattle.ion.specs.Value.Encode.{bodyOf}
 use Rattle.output.proofs.Stores.{passed-writing, stopped-writing}
 use Rattle.output.proofs.Runs.{run-front}
 use Rattle.timestamp.proofs.Accepts.{check-gives}
-use Rattle.timestamp_binary.proofs.Values.{body-length}
+use Rattle.timestamp_binary.proofs.Lengths.{body-length}
 use Rattle.timestamp_binary.proofs.encoder.encode_timestamp.Statement.{statement}
 use Rattle.timestamp_binary.proofs.encoder.encode_timestamp.Tie as tie
 

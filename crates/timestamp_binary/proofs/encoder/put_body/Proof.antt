@@ -14,7 +14,7 @@ use Rattle.ion.specs.declared.Fields.{Fields}
 use Rattle.ion.specs.declared.offset.Offset.{Offset}
 use Rattle.output.proofs.Runs.{run-two, run-is}
 use Rattle.timestamp.proofs.Valid.{valid-time, valid-offset}
-use Rattle.timestamp_binary.proofs.BodyParts.{body-parts}
+use Rattle.timestamp_binary.proofs.BodyRuns.{body-parts}
 use Rattle.timestamp_binary.proofs.encoder.put_body.Statement.{statement}
 use Rattle.timestamp_binary.proofs.encoder.put_body.Tie as tie
 

@@ -10,7 +10,7 @@ use Rattle.ion.specs.Numbers.VarUInt.{groupCount}
 use Rattle.ion.specs.Value.Encode.{varuints}
 use Rattle.binary.proofs.VarUInts.{length-varuint}
 use Rattle.output.proofs.Runs.{run-none, run-two}
-use Rattle.timestamp_binary.proofs.FieldRuns.{varuints-none, varuints-more, varuints-room}
+use Rattle.timestamp_binary.proofs.BodyRuns.{varuints-none, varuints-more, varuints-room}
 use Rattle.timestamp_binary.proofs.encoder.put_fields.Statement.{statement}
 use Rattle.timestamp_binary.proofs.encoder.put_fields.Tie as tie
 

@@ -14,8 +14,7 @@ use Rattle.ion.specs.Numbers.Decimal.{decimalBytes}
 use Rattle.ion.specs.Value.Encode.{fractionBytes}
 use Rattle.fraction.proofs.Scales.{scale-pos}
 use Rattle.output.proofs.Runs.{run-none, run-is}
-use Rattle.timestamp_binary.proofs.DecodeBack.{no-fraction}
-use Rattle.timestamp_binary.proofs.FractionRuns.{fraction-some}
+use Rattle.timestamp_binary.proofs.BodyRuns.{no-fraction, fraction-some}
 use Rattle.timestamp_binary.proofs.encoder.put_fraction.Statement.{statement}
 use Rattle.timestamp_binary.proofs.encoder.put_fraction.Tie as tie
 

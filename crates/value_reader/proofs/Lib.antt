@@ -1,0 +1,10 @@
+pub mod DecodeBack
+pub mod DecodeIs
+pub mod UtcBody
+pub mod LocalFields
+pub mod Values
+pub mod Readings
+pub mod FieldSteps
+pub mod PartsTested
+pub mod PartsReadings
+pub mod ReadSteps

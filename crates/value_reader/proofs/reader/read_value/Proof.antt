@@ -1,0 +1,53 @@
+-- `reader::read_value` meets its contract. Assumes nothing.
+use borrow.Author.Needs.{needs}
+use mathlib.Core.Path.{_≡_, sym, ap, _∙_}
+use mathlib.Core.List.{[], _∷_}
+use native.Mathlib.Omega.{arith}
+use lib.ListN.{drop, getD, drop-of-length-le}
+use lib.Seq.{drop-cons}
+use Rattle.ion.specs.Value.ReadValue.{readValue}
+use Rattle.value_reader.proofs.ReadSteps.{first-none, first-low, first-high, first-long, first-short}
+use Rattle.value_reader.proofs.reader.read_value.Statement.{statement}
+use Rattle.value_reader.proofs.reader.read_value.Tie as tie
+
+returns : tie.Need-returns
+returns c =
+    let s = c .before .before .before .args .s .now in
+    let e : drop 0 s ≡ [] = drop-of-length-le s {i = 0} (omega (arith, c .before .if1 .taken)) in
+    c .refused .ensures ∙ sym (ap readValue e ∙ first-none)
+
+-- the first byte
+byte : (c : tie.Else1) → let s = c .before .before .args .s .now in s ≡ getD s 0 0 ∷ drop 1 s
+byte c = drop-cons (c .before .before .args .s .now) 0 0 (omega (arith, c .if1 .left))
+
+returns-2 : tie.Need-returns-2
+returns-2 c = c .refused2 .ensures ∙ sym (ap readValue (byte (c .before .before .before)) ∙ first-low _ _ (c .before .if2 .taken))
+
+returns-3 : tie.Need-returns-3
+returns-3 c = c .refused3 .ensures ∙ sym (ap readValue (byte (c .before .before .before .before)) ∙ first-high _ _ (c .before .if3 .taken))
+
+returns-4 : tie.Need-returns-4
+returns-4 c = c .read-length .ensures ∙ sym (ap readValue (byte (c .before .before .before .before .before)) ∙ first-long _ _ (c .before .if4 .taken))
+
+returns-5 : tie.Need-returns-5
+returns-5 c =
+    let e = c .before in
+    let t = e .before in
+    c .read-after .ensures ∙ sym (ap readValue (byte (t .before .before .before)) ∙ first-short _ _ (t .before .if2 .left) (t .if3 .left) (e .if4 .left))
+
+pub read-value-spec : {M : Type 1} → statement M
+read-value-spec =
+    tie.close
+    (tie.spec
+    (λ c κs. search needs)
+    returns
+    (λ c. search needs)
+    (λ c κs. search needs)
+    returns-2
+    (λ c κs. search needs)
+    returns-3
+    (λ c κs. search needs)
+    returns-4
+    (λ c. search needs)
+    (λ c κs. search needs)
+    returns-5)

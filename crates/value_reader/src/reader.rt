@@ -1,0 +1,164 @@
+// The reader of a value, which takes the writer's bytes and no others.
+use crate::decoder::BodyRead;
+use crate::decoder::decode_body;
+use ion::Body;
+use ion::Date;
+use ion::Fields;
+use ion::Read;
+use ion::Timestamp;
+use ion::offset;
+use ion::offset::Offset;
+use ion::refusal;
+ghost use mathlib.Core.Path.{_≡_};
+ghost use mathlib.Core.Bool.{true};
+ghost use Prim.Native.Nat.{_≤_};
+ghost use lib.ListN.{length, drop};
+ghost use Rattle.ion.specs.Value.Decode.{localBy};
+ghost use Rattle.ion.specs.Value.ReadValue.{refusedReading, readBody, readAfter, readLength, readValue};
+ghost use Rattle.value_reader.specs.BodyParts.{Encodable, UtcInBounds, offsetFits, PartsRead};
+
+fn refused(number: u32) -> Read
+    ensures { λ r. ⌜ r ≡ refusedReading number ⌝ }
+{
+    Read {
+        number: number,
+        stamp: Timestamp {
+            packed_fields: 0,
+            attoseconds: 0,
+        },
+        taken: 0,
+    }
+}
+
+// Whether an offset may stand beside a precision: a known one only from the hour on.
+fn offset_fits(precision: u32, o: Offset) -> bool
+    ensures { λ r. ⌜ r ≡ offsetFits precision o ⌝ }
+{
+    match o {
+        Offset::Unknown => true,
+        Offset::Known(_) => 3 <= precision,
+    }
+}
+
+// Whether the parts are those of some timestamp, but for its local year.
+fn utc_in_bounds(x: Body) -> bool
+    ensures { λ r. ⌜ (r ≡ true → UtcInBounds x) × (UtcInBounds x → r ≡ true) ⌝ }
+{
+    let u = x.utc;
+    let o = x.offset;
+    let bounds = (u.year <= 10000)
+        & (u.hour <= 23)
+        & (u.minute <= 59)
+        & (u.second <= 59)
+        & (u.digits <= 18);
+    if !(bounds & offset_fits(u.precision, o)) {
+        return false;
+    }
+    if fraction::power(u.digits as u64) <= x.coefficient {
+        return false;
+    }
+    calendar::is_date(Date {
+        year: u.year,
+        month: u.month,
+        day: u.day,
+    })
+}
+
+// The local fields of parts.
+fn local_fields(x: Body) -> Fields
+    requires { ⌜ Encodable x × UtcInBounds x ⌝ }
+    ensures { λ r. ⌜ r ≡ localBy (x .offset) (x .utc) ⌝ }
+{
+    let o = x.offset;
+    let u = x.utc;
+    match o {
+        Offset::Unknown => u,
+        Offset::Known(m) => timestamp::shifted_fields(u, m, offset::raw_of(o)),
+    }
+}
+
+// The timestamp of parts, with which `taken` bytes are taken. Its local year decides, not the UTC year.
+fn read_parts(x: Body, taken: usize) -> Read
+    requires { ⌜ Encodable x ⌝ }
+    ensures { λ r. ⌜ PartsRead x taken r ⌝ }
+{
+    if !utc_in_bounds(x) {
+        return refused(refusal::BODY);
+    }
+    let u = x.utc;
+    let f = local_fields(x);
+    if f.year < 1 {
+        return refused(refusal::BODY);
+    }
+    if 9999 < f.year {
+        return refused(refusal::BODY);
+    }
+    Read {
+        number: 0,
+        stamp: Timestamp {
+            packed_fields: packed::pack(f),
+            attoseconds: x.coefficient * fraction::scale(u.digits as u64),
+        },
+        taken: taken,
+    }
+}
+
+// The timestamp whose body `b` is, with which `taken` bytes are taken.
+fn read_body(b: &[u8], taken: usize) -> Read
+    ensures { λ r. ⌜ r ≡ readBody taken (now (b .entry)) ⌝ }
+{
+    match decode_body(b) {
+        BodyRead::Parts(x) => read_parts(x, taken),
+        BodyRead::Nothing => refused(refusal::BODY),
+    }
+}
+
+// The timestamp of a body of `n` bytes from index `at` on.
+fn read_after(s: &[u8], at: usize, n: usize) -> Read
+    requires { ⌜ at ≤ length (now s) ⌝ }
+    ensures { λ r. ⌜ r ≡ readAfter at n (drop at (now (s .entry))) ⌝ }
+{
+    if s.len() - at < n {
+        return refused(refusal::INPUT_ENDS);
+    }
+    let end = at + n;
+    read_body(&s[at..end], end)
+}
+
+// The timestamp of a body whose length is the byte after 6E.
+fn read_length(s: &[u8]) -> Read
+    requires { ⌜ 1 ≤ length (now s) ⌝ }
+    ensures { λ r. ⌜ r ≡ readLength (drop 1 (now (s .entry))) ⌝ }
+{
+    if s.len() < 2 {
+        return refused(refusal::INPUT_ENDS);
+    }
+    let c = s[1];
+    if c < 0x8e {
+        return refused(refusal::BODY);
+    }
+    if 0x92 < c {
+        return refused(refusal::BODY);
+    }
+    read_after(s, 2, (c - 0x80) as usize)
+}
+
+// Reads the value with which `s` begins. Bytes after it are not read.
+pub fn read_value(s: &[u8]) -> Read
+    ensures { λ r. ⌜ r ≡ readValue (now (s .entry)) ⌝ }
+{
+    if s.len() == 0 {
+        return refused(refusal::INPUT_ENDS);
+    }
+    let d = s[0];
+    if d < 0x60 {
+        return refused(refusal::FIRST_BYTE);
+    }
+    if 0x6e < d {
+        return refused(refusal::FIRST_BYTE);
+    }
+    if d == 0x6e {
+        return read_length(s);
+    }
+    read_after(s, 1, (d - 0x60) as usize)
+}
