@@ -43,7 +43,8 @@ pub fn put_decimal(buf: &mut [u8], at: usize, coefficient: u64, exponent: i64) -
 
 // Writes a decimal from index `at` on.
 pub fn encode_decimal(buf: &mut [u8], at: usize, coefficient: u64, exponent: i64) -> Written
-    ensures { λ r. ⌜ (r ≡ wrote (now (buf .entry)) at (decimalBytes coefficient exponent)) × (now (buf .exit) ≡ put (now (buf .entry)) at (decimalBytes coefficient exponent)) ⌝ }
+    ensures { λ r. ⌜ r ≡ wrote (now (buf .entry)) at (decimalBytes coefficient exponent) ⌝ }
+    ensures { λ _. ⌜ now (buf .exit) ≡ put (now (buf .entry)) at (decimalBytes coefficient exponent) ⌝ }
 {
     let n = encoded_size_of(coefficient, exponent);
     let answer = output::room_for(buf.len(), at, n);

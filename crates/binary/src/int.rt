@@ -36,7 +36,8 @@ fn put_be(buf: &mut [u8], at: usize, n: usize, value: u64)
 
 // Writes `value` from index `at` on.
 pub fn write_u64(buf: &mut [u8], at: usize, value: u64) -> Written
-    ensures { λ r. ⌜ (r ≡ wrote (now (buf .entry)) at (int value)) × (now (buf .exit) ≡ put (now (buf .entry)) at (int value)) ⌝ }
+    ensures { λ r. ⌜ r ≡ wrote (now (buf .entry)) at (int value) ⌝ }
+    ensures { λ _. ⌜ now (buf .exit) ≡ put (now (buf .entry)) at (int value) ⌝ }
 {
     let n = encoded_size_of(value);
     let answer = output::room_for(buf.len(), at, n);

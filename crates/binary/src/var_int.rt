@@ -1,5 +1,6 @@
 // VarInt of Ion binary: as VarUInt, but the first byte holds six bits, and the sign in bit 0x40.
 use crate::var_uint;
+use crate::var_uint::END_FLAG;
 use ion::VarIntRead;
 use ion::VarUIntRead;
 use ion::Written;
@@ -11,6 +12,9 @@ ghost use lib.ListN.{length, drop};
 ghost use Rattle.ion.specs.Calls.Output.{over, put, wrote, Run};
 ghost use Rattle.ion.specs.Numbers.VarInt.{isNegative, signedCount, signed, varint, readVarInt};
 ghost use Rattle.ion.specs.Numbers.NumberReads.{varIntAnswer, varIntOf};
+
+// The bit that marks a negative number, in the first byte.
+const SIGN: u8 = 0b0100_0000;
 
 // A number by its sign and its size: negative zero is one of its own.
 pub struct Parts {
@@ -48,13 +52,14 @@ fn put_signed(buf: &mut [u8], at: usize, n: usize, p: Parts)
 {
     var_uint::put_groups(buf, at, n, p.magnitude);
     if p.negative {
-        buf[at] += 64;
+        buf[at] += SIGN;
     }
 }
 
 // Writes a sign and a magnitude as a VarInt from index `at` on.
 pub fn write_parts(buf: &mut [u8], at: usize, p: Parts) -> Written
-    ensures { λ r. ⌜ (r ≡ wrote (now (buf .entry)) at (signed (p .negative) (p .magnitude))) × (now (buf .exit) ≡ put (now (buf .entry)) at (signed (p .negative) (p .magnitude))) ⌝ }
+    ensures { λ r. ⌜ r ≡ wrote (now (buf .entry)) at (signed (p .negative) (p .magnitude)) ⌝ }
+    ensures { λ _. ⌜ now (buf .exit) ≡ put (now (buf .entry)) at (signed (p .negative) (p .magnitude)) ⌝ }
 {
     let n = encoded_size_of(p.magnitude);
     let answer = output::room_for(buf.len(), at, n);
@@ -67,14 +72,16 @@ pub fn write_parts(buf: &mut [u8], at: usize, p: Parts) -> Written
 
 // Writes `value` as a VarInt from index `at` on.
 pub fn write_i64(buf: &mut [u8], at: usize, value: i64) -> Written
-    ensures { λ r. ⌜ (r ≡ wrote (now (buf .entry)) at (varint value)) × (now (buf .exit) ≡ put (now (buf .entry)) at (varint value)) ⌝ }
+    ensures { λ r. ⌜ r ≡ wrote (now (buf .entry)) at (varint value) ⌝ }
+    ensures { λ _. ⌜ now (buf .exit) ≡ put (now (buf .entry)) at (varint value) ⌝ }
 {
     write_parts(buf, at, parts_of(value))
 }
 
 // Writes negative zero, which no i64 is.
 pub fn write_negative_zero(buf: &mut [u8], at: usize) -> Written
-    ensures { λ r. ⌜ (r ≡ wrote (now (buf .entry)) at (signed true 0)) × (now (buf .exit) ≡ put (now (buf .entry)) at (signed true 0)) ⌝ }
+    ensures { λ r. ⌜ r ≡ wrote (now (buf .entry)) at (signed true 0) ⌝ }
+    ensures { λ _. ⌜ now (buf .exit) ≡ put (now (buf .entry)) at (signed true 0) ⌝ }
 {
     write_parts(
         buf,
@@ -113,9 +120,9 @@ pub fn read_i64(s: &[u8], at: usize, limit: u64) -> VarIntRead
         return VarIntRead::Cut;
     }
     let b = s[at];
-    let negative = 64 <= b % 128;
+    let negative = SIGN <= b % 128;
     let first = (b % 64) as u64;
-    if 128 <= b {
+    if END_FLAG <= b {
         if limit < first {
             return VarIntRead::Bad;
         }

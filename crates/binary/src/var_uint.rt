@@ -8,6 +8,9 @@ ghost use Rattle.ion.specs.Calls.Output.{over, put, wrote, Run};
 ghost use Rattle.ion.specs.Numbers.VarUInt.{groups, groupCount, varuint, upTo, scanFrom, zeroFirst, readVarUInt};
 ghost use Rattle.ion.specs.Numbers.NumberReads.{varUIntAnswer, varUIntOf};
 
+// The bit that marks the last byte.
+pub const END_FLAG: u8 = 0x80;
+
 // The number of bytes of `value` as a VarUInt, from its leading zeros.
 pub fn encoded_size_of(value: u64) -> usize
     ensures { λ r. ⌜ r ≡ groupCount value ⌝ }
@@ -27,7 +30,7 @@ pub(crate) fn put_groups(buf: &mut [u8], at: usize, n: usize, value: u64)
 {
     let mut i = at + n - 1;
     let mut q = value / 128;
-    buf[i] = (128 + value % 128) as u8;
+    buf[i] = END_FLAG + (value % 128) as u8;
     while at < i {
         i -= 1;
         buf[i] = (q % 128) as u8;
@@ -37,7 +40,8 @@ pub(crate) fn put_groups(buf: &mut [u8], at: usize, n: usize, value: u64)
 
 // Writes `value` as a VarUInt from index `at` on.
 pub fn write_u64(buf: &mut [u8], at: usize, value: u64) -> Written
-    ensures { λ r. ⌜ (r ≡ wrote (now (buf .entry)) at (varuint value)) × (now (buf .exit) ≡ put (now (buf .entry)) at (varuint value)) ⌝ }
+    ensures { λ r. ⌜ r ≡ wrote (now (buf .entry)) at (varuint value) ⌝ }
+    ensures { λ _. ⌜ now (buf .exit) ≡ put (now (buf .entry)) at (varuint value) ⌝ }
 {
     let n = encoded_size_of(value);
     let answer = output::room_for(buf.len(), at, n);
@@ -79,7 +83,7 @@ pub(crate) fn read_groups(
             return VarUIntRead::Cut;
         }
         let b = s[i];
-        if 128 <= b {
+        if END_FLAG <= b {
             return last_group(v, b, k + 1, limit);
         }
         // Without this return `v` would get a tenth group, for which 64 bits have no room.

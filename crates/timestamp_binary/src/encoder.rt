@@ -4,6 +4,7 @@ use binary::decimal;
 use binary::var_int;
 use binary::var_int::Parts;
 use binary::var_uint;
+use binary::var_uint::END_FLAG;
 use ion::Timestamp;
 use ion::Written;
 use ion::offset;
@@ -17,7 +18,17 @@ ghost use Rattle.ion.specs.Calls.Check.{checkNumber};
 ghost use Rattle.ion.specs.Calls.Accepted.{Accepted};
 ghost use Rattle.ion.specs.Value.Encode.{offsetBytes, varuints, fieldCount, fractionBytes, bodyOf, valueOf};
 
-const MAX_INLINE_LENGTH: usize = 13;
+// The type descriptor of a timestamp, to which the length of its body is added.
+pub const TYPE_DESCRIPTOR: u8 = 0x60;
+
+// The longest body whose length the type descriptor holds.
+pub const MAX_INLINE_LENGTH: usize = 13;
+
+// The type descriptor of a longer body: its length follows.
+pub const LENGTH_FOLLOWS: u8 = 0x6e;
+
+// The longest body.
+pub const MAX_BODY_LENGTH: usize = 18;
 
 const MAX_TIMESTAMP_LENGTH: usize = 32;
 
@@ -99,7 +110,8 @@ fn put_body(buf: &mut [u8], at: usize, s: Timestamp) -> usize
 
 // Writes the body of a timestamp's value from index `at` on.
 pub fn encode_timestamp(buf: &mut [u8], at: usize, s: Timestamp) -> Written
-    ensures { λ r. ⌜ (r ≡ wroteAfter (checkNumber s) (now (buf .entry)) at (bodyOf s)) × (now (buf .exit) ≡ putAfter (checkNumber s) (now (buf .entry)) at (bodyOf s)) ⌝ }
+    ensures { λ r. ⌜ r ≡ wroteAfter (checkNumber s) (now (buf .entry)) at (bodyOf s) ⌝ }
+    ensures { λ _. ⌜ now (buf .exit) ≡ putAfter (checkNumber s) (now (buf .entry)) at (bodyOf s) ⌝ }
 {
     let number = timestamp::check_number(s);
     if number != 0 {
@@ -115,7 +127,8 @@ pub fn encode_timestamp(buf: &mut [u8], at: usize, s: Timestamp) -> Written
 
 // Writes the value of a timestamp from index `at` on. The header goes into the two bytes before the body.
 pub fn encode_timestamp_value(buf: &mut [u8], at: usize, s: Timestamp) -> Written
-    ensures { λ r. ⌜ (r ≡ wroteAfter (checkNumber s) (now (buf .entry)) at (valueOf s)) × (now (buf .exit) ≡ putAfter (checkNumber s) (now (buf .entry)) at (valueOf s)) ⌝ }
+    ensures { λ r. ⌜ r ≡ wroteAfter (checkNumber s) (now (buf .entry)) at (valueOf s) ⌝ }
+    ensures { λ _. ⌜ now (buf .exit) ≡ putAfter (checkNumber s) (now (buf .entry)) at (valueOf s) ⌝ }
 {
     let check = timestamp::check_number(s);
     if check != 0 {
@@ -128,10 +141,10 @@ pub fn encode_timestamp_value(buf: &mut [u8], at: usize, s: Timestamp) -> Writte
     let end = put_body(&mut bytes, 2, s);
     let length = end - 2;
     if length <= MAX_INLINE_LENGTH {
-        bytes[1] = (0x60 + length) as u8;
+        bytes[1] = TYPE_DESCRIPTOR + length as u8;
         return output::put_bytes(buf, at, &bytes[1..end]);
     }
-    bytes[0] = 0x6e;
-    bytes[1] = (0x80 + length) as u8;
+    bytes[0] = LENGTH_FOLLOWS;
+    bytes[1] = END_FLAG + length as u8;
     output::put_bytes(buf, at, &bytes[..end])
 }

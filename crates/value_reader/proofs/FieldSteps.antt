@@ -2,29 +2,33 @@
 use mathlib.Core.Path.{_≡_, refl, sym, ap, ap₂, _∙_}
 use mathlib.Core.Bool.{Bool, true, false, cond, not, _&&_}
 use mathlib.Core.List.{List, [], _∷_, _++_, append-assoc, append-nil}
-use Prim.Native.Nat.{ℕ, suc, _+_, _-_, _≤_, _<_}
+use Prim.Native.Nat.{ℕ, zero, suc, _+_, _-_, _≤_, _<_}
 use native.Mathlib.Numerals.{add-one}
 use native.Mathlib.Omega.{arith}
-use lib.Dec.{eqb}
-use lib.ListN.{length, take, drop, set, take-append-drop, length-append, length-take, length-drop}
+use native.Mathlib.Decide.{decLe}
+use borrow.Author.Tests.{lt-ltb, ltb-false}
+use lib.Dec.{eqb, ltb}
+use lib.ListN.{length, take, drop, set, take-append-drop, length-append, length-take, length-drop, length-set, drop-of-length-le}
 use lib.Seq.{drop-drop, drop-set-lt, take-suc-set, length-take-le}
 use Rattle.ion.specs.Numbers.VarUInt.{readVarUInt}
 use Rattle.ion.specs.Value.Decode.{Decoded, found, nothing, oneMore, fieldFrom, decodeFields, decodeFraction, firstValues, filled, precisionWith, fieldsFrom, bodyWith, afterFields, afterOffset, isFieldCount}
+use Rattle.ion.specs.declared.Fields.{Fields}
 use Rattle.ion.specs.declared.Body.{Body}
 use Rattle.ion.specs.declared.VarUIntRead.{VarUIntRead}
 use Rattle.ion.specs.declared.VarUIntRead.the-variants as uint
 use Rattle.ion.specs.declared.offset.Offset.{Offset}
+use Rattle.timestamp.proofs.Decides.{lt-decides, _and_}
 use Rattle.value_reader.specs.Parsed.{FieldsAre}
 use Rattle.value_reader.specs.declared.decoder.FieldsRead.{FieldsRead}
 
 -- ---- one field a turn
 
 -- the fields p, and those found after them
-abbrev pub joined : List ℕ → Decoded (List ℕ × List ℕ) → Decoded (List ℕ × List ℕ)
+abbrev joined : List ℕ → Decoded (List ℕ × List ℕ) → Decoded (List ℕ × List ℕ)
 joined p (found q) = found (p ++ q .0, q .1)
 joined p nothing = nothing
 
-pub joined-none : (q : Decoded (List ℕ × List ℕ)) → q ≡ joined [] q
+joined-none : (q : Decoded (List ℕ × List ℕ)) → q ≡ joined [] q
 joined-none (found q) = refl
 joined-none nothing = refl
 
@@ -32,62 +36,90 @@ joined-one : (p : List ℕ) (m : ℕ) (q : Decoded (List ℕ × List ℕ)) → j
 joined-one p m (found q) = ap (λ (l : List ℕ). found (l, q .1)) (sym (append-assoc p (m ∷ []) (q .0)))
 joined-one p m nothing = refl
 
--- six values after k fields: the others are as they were
-abbrev pub Rest : List ℕ → ℕ → Type 0
-Rest v k = (length v ≡ 6) × (drop k v ≡ drop k firstValues)
+-- k fields of all that are decoded, q, are passed and stand in v, where the others have their first values; s goes on from index n
+pub record Passed (s : List ℕ) (q : Decoded (List ℕ × List ℕ)) (v : List ℕ) (k n : ℕ) : Type 0 where
+  pub most : k ≤ 6
+  wide : length v ≡ 6
+  rest : drop k v ≡ drop k firstValues
+  all : q ≡ joined (take k v) (decodeFields (6 - k) (drop n s))
 
-pub rest-more : (v : List ℕ) (k m : ℕ) → Rest v k → drop (k + 1) (set v k m) ≡ drop (k + 1) firstValues
-rest-more v k m r = drop-set-lt (k + 1) v k m (omega arith) ∙ sym (drop-drop 1 k v) ∙ ap (drop 1) (r .1) ∙ drop-drop 1 k firstValues
+-- whether there is a field to read, and a byte to read it from
+abbrev pub more : List ℕ → ℕ → ℕ → Bool
+more s k n = ltb k 6 && ltb n (length s)
 
-one-less : (k : ℕ) → k < 6 → 6 - k ≡ suc (6 - (k + 1))
-one-less k h = omega arith
+pub more-left : (s : List ℕ) (k n : ℕ) → more s k n ≡ true → (k < 6) × (n < length s)
+more-left s k n = (lt-decides k 6 and lt-decides n (length s)) .0
 
--- there are bytes left
+none-left : (n : ℕ) (t : List ℕ) → t ≡ [] → decodeFields n t ≡ found ([], t)
+unfolding decodeFields
+none-left zero t e = refl
+none-left (suc n) t e = rw e
+
 some-left : (n : ℕ) (t : List ℕ) → 0 < length t → decodeFields (suc n) t ≡ fieldFrom (decodeFields n) t (readVarUInt 16383 t)
 unfolding decodeFields
 some-left n [] h = absurd (omega arith)
 some-left n (b ∷ t) h = refl
 
-turned : (s : List ℕ) (k i : ℕ) → k < 6 → i < length s → decodeFields (6 - k) (drop i s) ≡ fieldFrom (decodeFields (6 - (k + 1))) (drop i s) (readVarUInt 16383 (drop i s))
-turned s k i h l = ap (λ (n : ℕ). decodeFields n (drop i s)) (one-less k h) ∙ some-left (6 - (k + 1)) (drop i s) (omega (arith, length-drop i s))
+pub passed-none : (s : List ℕ) (n : ℕ) → Passed s (decodeFields 6 (drop n s)) firstValues 0 n
+passed-none s n = record { most = omega arith; wide = refl; rest = refl; all = joined-none _ }
 
-pub field-more : (s v : List ℕ) (k i m n : ℕ) → k < 6 → i < length s → length v ≡ 6 → readVarUInt 16383 (drop i s) ≡ uint.Value m n
-    → joined (take k v) (decodeFields (6 - k) (drop i s)) ≡ joined (take (k + 1) (set v k m)) (decodeFields (6 - (k + 1)) (drop (i + n) s))
-field-more s v k i m n h l w e =
-    let f = decodeFields (6 - (k + 1)) in
-    let t : take (k + 1) (set v k m) ≡ take k v ++ (m ∷ []) = rw (add-one k) (take-suc-set v k m (omega arith)) in
-    ap (joined (take k v)) (turned s k i h l ∙ ap (fieldFrom f (drop i s)) e ∙ ap (λ (u : List ℕ). oneMore m (f u)) (drop-drop n i s))
-    ∙ joined-one (take k v) m (f (drop (i + n) s))
-    ∙ ap (λ (p : List ℕ). joined p (f (drop (i + n) s))) (sym t)
+module _ {s : List ℕ} {q : Decoded (List ℕ × List ℕ)} {v : List ℕ} {k n : ℕ} (p : Passed s q v k n) where
+  turned : more s k n ≡ true → decodeFields (6 - k) (drop n s) ≡ fieldFrom (decodeFields (6 - (k + 1))) (drop n s) (readVarUInt 16383 (drop n s))
+  turned t =
+      let h = more-left s k n t in
+      let e : 6 - k ≡ suc (6 - (k + 1)) = omega arith in
+      rw e (some-left (6 - (k + 1)) (drop n s) (omega (arith, length-drop n s)))
 
--- something that is no field
-pub field-none : (s : List ℕ) (k i : ℕ) (g : VarUIntRead) → k < 6 → i < length s → readVarUInt 16383 (drop i s) ≡ g
-    → ((f : List ℕ → Decoded (List ℕ × List ℕ)) (t : List ℕ) → fieldFrom f t g ≡ nothing) → decodeFields (6 - k) (drop i s) ≡ nothing
-field-none s k i g h l e f = turned s k i h l ∙ ap (fieldFrom (decodeFields (6 - (k + 1))) (drop i s)) e ∙ f (decodeFields (6 - (k + 1))) (drop i s)
+  pub passed-more : (m j : ℕ) → more s k n ≡ true → readVarUInt 16383 (drop n s) ≡ uint.Value m j → Passed s q (set v k m) (k + 1) (n + j)
+  passed-more m j t e =
+      let f = decodeFields (6 - (k + 1)) in
+      let h = more-left s k n t in
+      let w = p .wide in
+      let l : take (k + 1) (set v k m) ≡ take k v ++ (m ∷ []) = rw (add-one k) (take-suc-set v k m (omega arith)) in
+      record {
+        most = omega arith;
+        wide = length-set v k m ∙ w;
+        rest = drop-set-lt (k + 1) v k m (omega arith) ∙ sym (drop-drop 1 k v) ∙ ap (drop 1) (p .rest) ∙ drop-drop 1 k firstValues;
+        all =
+            p .all
+            ∙ ap (joined (take k v)) (turned t ∙ ap (fieldFrom f (drop n s)) e ∙ ap (λ (u : List ℕ). oneMore m (f u)) (drop-drop j n s))
+            ∙ joined-one (take k v) m (f (drop (n + j) s))
+            ∙ ap (λ (x : List ℕ). joined x (f (drop (n + j) s))) (sym l);
+      }
 
-pub field-end : (t : List ℕ) (k : ℕ) → k < 6 → t ≡ [] → decodeFields (6 - k) t ≡ found ([], [])
-unfolding decodeFields
-field-end t k h e = rw (e, one-less k h)
+  -- something that is no field makes nothing of all
+  pub passed-bad : (g : VarUIntRead) → more s k n ≡ true → readVarUInt 16383 (drop n s) ≡ g
+      → ((f : List ℕ → Decoded (List ℕ × List ℕ)) (t : List ℕ) → fieldFrom f t g ≡ nothing) → q ≡ nothing
+  passed-bad g t e z =
+      let f = decodeFields (6 - (k + 1)) in
+      p .all ∙ ap (joined (take k v)) (turned t ∙ ap (fieldFrom f (drop n s)) e ∙ z f (drop n s))
 
-pub field-last : (t : List ℕ) (k : ℕ) → k ≡ 6 → decodeFields (6 - k) t ≡ found ([], t)
-unfolding decodeFields
-field-last t k e = rw e
+  at-end : more s k n ≡ false → decodeFields (6 - k) (drop n s) ≡ found ([], drop n s)
+  unfolding decodeFields
+  at-end t = go (decLe 6 k)
+    where
+      go : Dec (6 ≤ k) → decodeFields (6 - k) (drop n s) ≡ found ([], drop n s)
+      go (yes h) = let e : 6 - k ≡ 0 = omega arith in rw e
+      go (no h) =
+          let e : ltb n (length s) ≡ false = rw (lt-ltb k 6 (omega arith)) at t in
+          none-left (6 - k) (drop n s) (drop-of-length-le s (ltb-false n (length s) e))
+
+  pub passed-all : more s k n ≡ false → FieldsAre s q (record { found = true; values = v; count = k; next = n })
+  unfolding filled
+  passed-all t =
+      let w = p .wide in
+      let h = p .most in
+      let l : length (take k v) ≡ k = length-take-le k v (omega arith) in
+      record {
+        decoded = sym (p .all ∙ ap (joined (take k v)) (at-end t) ∙ ap (λ (x : List ℕ). found (x, drop n s)) (append-nil (take k v)));
+        values = rw (l, ← p .rest) (sym (take-append-drop k v));
+        most = h;
+      }
 
 -- ---- what the reader of fields answers
 
-pub fields-done : (s : List ℕ) (q : Decoded (List ℕ × List ℕ)) (v t : List ℕ) (k n : ℕ) → k ≤ 6 → Rest v k → q ≡ joined (take k v) (found ([], t)) → drop n s ≡ t
-    → FieldsAre s q (record { found = true; values = v; count = k; next = n })
-unfolding filled
-fields-done s q v t k n h r e d =
-    let l : length (take k v) ≡ k = length-take-le k v (omega arith) in
-    record {
-      decoded = sym (e ∙ ap₂ (λ (x y : List ℕ). found (x, y)) (append-nil (take k v)) (sym d));
-      values = rw (l, ← r .1) (sym (take-append-drop k v));
-      most = h;
-    }
-
-pub fields-none : (s : List ℕ) (q : Decoded (List ℕ × List ℕ)) (r : FieldsRead) → q ≡ nothing → (r .found ≡ false) × (r .values ≡ firstValues) × (r .count ≡ 0)
-    → FieldsAre s q r
+pub fields-none : (s : List ℕ) (q : Decoded (List ℕ × List ℕ)) (r : FieldsRead) → q ≡ nothing
+    → (r .found ≡ false) × (r .values ≡ firstValues) × (r .count ≡ 0) → FieldsAre s q r
 unfolding filled
 fields-none s q r e f =
     record { decoded = rw (f .0) (sym e); values = rw (f .2, f .1); most = omega arith }
@@ -115,7 +147,8 @@ module _ {s : List ℕ} {q : Decoded (List ℕ × List ℕ)} {r : FieldsRead} (f
       go true e = ap (λ (b : Bool). cond b (afterFields o l (decodeFraction (drop (r .next) s))) nothing) (ap isFieldCount counted ∙ e)
       go false e = ap (λ (b : Bool). cond b (afterFields o l (decodeFraction (drop (r .next) s))) nothing) e
 
-  pub body-values : (o : Offset) (p d c : ℕ) → p ≡ precisionWith (r .count)
-      → _≡_ {A = Body} (record { offset = o; utc = fieldsFrom (r .values) p d; coefficient = c }) (bodyWith o (take (r .count) (r .values)) d c)
-  body-values o p d c e =
-      ap₂ (λ (v : List ℕ) (k : ℕ). record { offset = o; utc = fieldsFrom v k d; coefficient = c }) (f .values) (e ∙ ap precisionWith (sym counted))
+  pub body-values : (o : Offset) (p d c : ℕ) → p ≡ precisionWith (r .count) → {u : Fields} → u ≡ fieldsFrom (r .values) p d
+      → _≡_ {A = Body} (record { offset = o; utc = u; coefficient = c }) (bodyWith o (take (r .count) (r .values)) d c)
+  body-values o p d c e g =
+      ap (λ (x : Fields). record { offset = o; utc = x; coefficient = c })
+      (g ∙ ap₂ (λ (v : List ℕ) (k : ℕ). fieldsFrom v k d) (f .values) (e ∙ ap precisionWith (sym counted)))

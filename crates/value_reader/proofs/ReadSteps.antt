@@ -1,12 +1,29 @@
 -- The reader's tests of the bytes before a body, one after the other. Assumes nothing.
-use mathlib.Core.Path.{_≡_, refl}
+use mathlib.Core.Path.{_≡_, refl, sym, _∙_}
+use mathlib.Core.Bool.{Bool, true, false, _||_, false≢true}
 use mathlib.Core.List.{List, [], _∷_}
 use Prim.Native.Nat.{ℕ, _+_, _-_, _≤_, _<_}
-use native.Mathlib.Omega.{arith}
-use borrow.Author.Tests.{lt-ltb, le-ltb, ne-eqb}
+use borrow.Author.Tests.{lt-ltb, le-ltb, ltb-false, ne-eqb}
+use lib.Dec.{ltb}
 use lib.ListN.{length, take}
 use Rattle.ion.specs.Calls.Refusal.{inputEnds, firstByteRefused, bodyRefused}
 use Rattle.ion.specs.Value.ReadValue.{refusedReading, readBody, readAfter, readLength, readValue}
+
+-- ---- a number that is outside its bounds, and one that is not
+
+abbrev pub outside : ℕ → ℕ → ℕ → Bool
+outside least most n = ltb n least || ltb most n
+
+pub outside-true : (l m n : ℕ) → outside l m n ≡ true → l ≤ n → n ≤ m → ⊥
+outside-true l m n e h k = false≢true (sym (rw (le-ltb n l h, le-ltb m n k)) ∙ e)
+
+pub outside-false : (l m n : ℕ) → outside l m n ≡ false → (l ≤ n) × (n ≤ m)
+outside-false l m n e = go (ltb n l) (ltb m n) refl refl e
+  where
+    go : (a b : Bool) → ltb n l ≡ a → ltb m n ≡ b → (a || b) ≡ false → (l ≤ n) × (n ≤ m)
+    go true b p q e = absurd (false≢true (sym e))
+    go false true p q e = absurd (false≢true (sym e))
+    go false false p q e = (ltb-false n l p, ltb-false m n q)
 
 -- ---- a body of n bytes
 
@@ -24,17 +41,13 @@ pub length-none : readLength [] ≡ refusedReading inputEnds
 unfolding readLength
 length-none = refl
 
-pub length-low : (c : ℕ) (s : List ℕ) → c < 0x8e → readLength (c ∷ s) ≡ refusedReading bodyRefused
+pub length-outside : (c : ℕ) (s : List ℕ) → outside 0x8e 0x92 c ≡ true → readLength (c ∷ s) ≡ refusedReading bodyRefused
 unfolding readLength
-length-low c s h = rw (lt-ltb c 0x8e h)
+length-outside c s e = rw e
 
-pub length-high : (c : ℕ) (s : List ℕ) → 0x92 < c → readLength (c ∷ s) ≡ refusedReading bodyRefused
+pub length-is : (c : ℕ) (s : List ℕ) → outside 0x8e 0x92 c ≡ false → readLength (c ∷ s) ≡ readAfter 2 (c - 0x80) s
 unfolding readLength
-length-high c s h = rw (le-ltb c 0x8e (omega arith), lt-ltb 0x92 c h)
-
-pub length-is : (c : ℕ) (s : List ℕ) → 0x8e ≤ c → c ≤ 0x92 → readLength (c ∷ s) ≡ readAfter 2 (c - 0x80) s
-unfolding readLength
-length-is c s l h = rw (le-ltb c 0x8e l, le-ltb 0x92 c h)
+length-is c s e = rw e
 
 -- ---- the first byte
 
@@ -42,18 +55,14 @@ pub first-none : readValue [] ≡ refusedReading inputEnds
 unfolding readValue
 first-none = refl
 
-pub first-low : (d : ℕ) (s : List ℕ) → d < 0x60 → readValue (d ∷ s) ≡ refusedReading firstByteRefused
+pub first-outside : (d : ℕ) (s : List ℕ) → outside 0x60 0x6e d ≡ true → readValue (d ∷ s) ≡ refusedReading firstByteRefused
 unfolding readValue
-first-low d s h = rw (lt-ltb d 0x60 h)
-
-pub first-high : (d : ℕ) (s : List ℕ) → 0x6e < d → readValue (d ∷ s) ≡ refusedReading firstByteRefused
-unfolding readValue
-first-high d s h = rw (le-ltb d 0x60 (omega arith), lt-ltb 0x6e d h)
+first-outside d s e = rw e
 
 pub first-long : (d : ℕ) (s : List ℕ) → d ≡ 0x6e → readValue (d ∷ s) ≡ readLength s
 unfolding readValue
 first-long d s e = rw e
 
-pub first-short : (d : ℕ) (s : List ℕ) → 0x60 ≤ d → d ≤ 0x6e → (d ≡ 0x6e → ⊥) → readValue (d ∷ s) ≡ readAfter 1 (d - 0x60) s
+pub first-short : (d : ℕ) (s : List ℕ) → outside 0x60 0x6e d ≡ false → (d ≡ 0x6e → ⊥) → readValue (d ∷ s) ≡ readAfter 1 (d - 0x60) s
 unfolding readValue
-first-short d s l h n = rw (le-ltb d 0x60 l, le-ltb 0x6e d h, ne-eqb d 0x6e n)
+first-short d s e n = rw (e, ne-eqb d 0x6e n)

@@ -21,6 +21,7 @@ use Rattle.ion.specs.declared.Read.{Read}
 use Rattle.ion.proofs.Same.{same-is}
 use Rattle.timestamp.proofs.Accepts.{check-gives}
 use Rattle.timestamp_binary.proofs.Headers.{header-short, header-long}
+use Rattle.value_reader.proofs.ReadSteps.{outside, outside-false}
 use Rattle.value_reader.proofs.Values.{value-back}
 
 -- ---- a body
@@ -99,39 +100,38 @@ long-is c s r l u a =
       taken = rw h (omega (arith, t, z));
     }
 
-or-false : (a b : Bool) → (a || b) ≡ false → (a ≡ false) × (b ≡ false)
-or-false true b e = absurd (false≢true (sym e))
-or-false false b e = (refl, e)
-
 length-is : (s : List ℕ) → readLength s .number ≡ 0 → ReadAs (0x6e ∷ s) (readLength s)
 unfolding readLength
 length-is [] e = no-refusal inputEnds (omega arith) e
-length-is (c ∷ s) e = go (ltb c 0x8e || ltb 0x92 c) refl e
+length-is (c ∷ s) e = go (outside 0x8e 0x92 c) refl e
   where
-    go : (t : Bool) → (ltb c 0x8e || ltb 0x92 c) ≡ t → cond t (refusedReading bodyRefused) (readAfter 2 (c - 0x80) s) .number ≡ 0
+    go : (t : Bool) → outside 0x8e 0x92 c ≡ t → cond t (refusedReading bodyRefused) (readAfter 2 (c - 0x80) s) .number ≡ 0
         → ReadAs (0x6e ∷ c ∷ s) (cond t (refusedReading bodyRefused) (readAfter 2 (c - 0x80) s))
     go true q e = no-refusal bodyRefused (omega arith) e
     go false q e =
-        let p = or-false (ltb c 0x8e) (ltb 0x92 c) q in
-        long-is c s (readAfter 2 (c - 0x80) s) (ltb-false c 0x8e (p .0)) (ltb-false 0x92 c (p .1)) (after-is 2 (c - 0x80) s e)
+        let p = outside-false 0x8e 0x92 c q in
+        long-is c s (readAfter 2 (c - 0x80) s) (p .0) (p .1) (after-is 2 (c - 0x80) s e)
 
 -- what is accepted begins with the value of the timestamp given, of the length given
 pub read-is : (b : List ℕ) → readValue b .number ≡ 0 → ReadAs b (readValue b)
 unfolding readValue
 read-is [] e = no-refusal inputEnds (omega arith) e
-read-is (d ∷ s) e = first (ltb d 0x60 || ltb 0x6e d) refl e
+read-is (d ∷ s) e = first (outside 0x60 0x6e d) refl e
   where
     second : (t : Bool) → eqb d 0x6e ≡ t → 0x60 ≤ d → d ≤ 0x6e → cond t (readLength s) (readAfter 1 (d - 0x60) s) .number ≡ 0
         → ReadAs (d ∷ s) (cond t (readLength s) (readAfter 1 (d - 0x60) s))
     second true q l u e = rw (eqb-true d 0x6e q) (length-is s e)
     second false q l u e = short-is d s (readAfter 1 (d - 0x60) s) l (omega (arith, eqb-false d 0x6e q)) (after-is 1 (d - 0x60) s e)
 
-    first : (t : Bool) → (ltb d 0x60 || ltb 0x6e d) ≡ t → cond t (refusedReading firstByteRefused) (cond (eqb d 0x6e) (readLength s) (readAfter 1 (d - 0x60) s)) .number ≡ 0
-        → ReadAs (d ∷ s) (cond t (refusedReading firstByteRefused) (cond (eqb d 0x6e) (readLength s) (readAfter 1 (d - 0x60) s)))
+    accepted : Read
+    accepted = cond (eqb d 0x6e) (readLength s) (readAfter 1 (d - 0x60) s)
+
+    first : (t : Bool) → outside 0x60 0x6e d ≡ t → cond t (refusedReading firstByteRefused) accepted .number ≡ 0
+        → ReadAs (d ∷ s) (cond t (refusedReading firstByteRefused) accepted)
     first true q e = no-refusal firstByteRefused (omega arith) e
     first false q e =
-        let p = or-false (ltb d 0x60) (ltb 0x6e d) q in
-        second (eqb d 0x6e) refl (ltb-false d 0x60 (p .0)) (ltb-false 0x6e d (p .1)) e
+        let p = outside-false 0x60 0x6e d q in
+        second (eqb d 0x6e) refl (p .0) (p .1) e
 
 -- ---- two timestamps
 

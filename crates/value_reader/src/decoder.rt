@@ -15,7 +15,7 @@ ghost use mathlib.Core.Bool.{false};
 ghost use Prim.Native.Nat.{_≤_};
 ghost use lib.ListN.{length, drop};
 ghost use Rattle.ion.specs.Numbers.Int.{readInt};
-ghost use Rattle.ion.specs.Value.Decode.{signedOffset, coefficientFrom, decodeFields, decodeFraction, firstValues, precisionWith, afterOffset, decodeBody};
+ghost use Rattle.ion.specs.Value.Decode.{signedOffset, coefficientFrom, decodeFields, decodeFraction, firstValues, fieldsFrom, precisionWith, afterOffset, decodeBody};
 ghost use Rattle.value_reader.specs.Parsed.{FieldsAre, fractionIn, bodyIn};
 
 // The parts of a body, or that the bytes are none.
@@ -75,15 +75,7 @@ fn read_fields(s: &[u8], at: usize) -> FieldsRead
     let mut values = FIRST_VALUES;
     let mut count: usize = 0;
     let mut next = at;
-    while count < 6 {
-        if s.len() <= next {
-            return FieldsRead {
-                found: true,
-                values: values,
-                count: count,
-                next: s.len(),
-            };
-        }
+    while (count < 6) & (next < s.len()) {
         match var_uint::read_u64(s, next, 16383) {
             VarUIntRead::Value(v, n) => {
                 values[count] = v as u32;
@@ -151,6 +143,23 @@ fn precision_with(count: usize) -> u32
     (count - 1) as u32
 }
 
+// UTC fields, which have no offset.
+fn fields_from(values: [u32; 6], precision: u32, digits: u32) -> Fields
+    ensures { λ r. ⌜ r ≡ fieldsFrom values precision digits ⌝ }
+{
+    Fields {
+        year: values[0],
+        month: values[1],
+        day: values[2],
+        hour: values[3],
+        minute: values[4],
+        second: values[5],
+        precision: precision,
+        digits: digits,
+        offset: offset::raw_of(Offset::Unknown),
+    }
+}
+
 // The parts of a body that has fields and a fraction from index `at` on.
 fn after_offset(s: &[u8], at: usize, offset: Offset) -> BodyRead
     ensures { λ r. ⌜ bodyIn r ≡ afterOffset offset (decodeFields 6 (drop at (now (s .entry)))) ⌝ }
@@ -163,17 +172,7 @@ fn after_offset(s: &[u8], at: usize, offset: Offset) -> BodyRead
     match read_fraction(s, f.next) {
         FractionRead::Parts(digits, coefficient) => BodyRead::Parts(Body {
             offset: offset,
-            utc: Fields {
-                year: values[0],
-                month: values[1],
-                day: values[2],
-                hour: values[3],
-                minute: values[4],
-                second: values[5],
-                precision: precision_with(f.count),
-                digits: digits,
-                offset: offset::raw_of(Offset::Unknown),
-            },
+            utc: fields_from(values, precision_with(f.count), digits),
             coefficient: coefficient,
         }),
         FractionRead::Nothing => BodyRead::Nothing,

@@ -1,6 +1,7 @@
 // The reader of a value, which takes the writer's bytes and no others.
 use crate::decoder::BodyRead;
 use crate::decoder::decode_body;
+use binary::var_uint::END_FLAG;
 use ion::Body;
 use ion::Date;
 use ion::Fields;
@@ -9,6 +10,10 @@ use ion::Timestamp;
 use ion::offset;
 use ion::offset::Offset;
 use ion::refusal;
+use timestamp_binary::LENGTH_FOLLOWS;
+use timestamp_binary::MAX_BODY_LENGTH;
+use timestamp_binary::MAX_INLINE_LENGTH;
+use timestamp_binary::TYPE_DESCRIPTOR;
 ghost use mathlib.Core.Path.{_≡_};
 ghost use mathlib.Core.Bool.{true};
 ghost use Prim.Native.Nat.{_≤_};
@@ -16,6 +21,11 @@ ghost use lib.ListN.{length, drop};
 ghost use Rattle.ion.specs.Value.Decode.{localBy};
 ghost use Rattle.ion.specs.Value.ReadValue.{refusedReading, readBody, readAfter, readLength, readValue};
 ghost use Rattle.value_reader.specs.BodyParts.{Encodable, UtcInBounds, offsetFits, PartsRead};
+
+// The byte of the shortest length that follows a type descriptor, and of the longest.
+const MIN_LENGTH: u8 = END_FLAG + MAX_INLINE_LENGTH as u8 + 1;
+
+const MAX_LENGTH: u8 = END_FLAG + MAX_BODY_LENGTH as u8;
 
 fn refused(number: u32) -> Read
     ensures { λ r. ⌜ r ≡ refusedReading number ⌝ }
@@ -44,23 +54,22 @@ fn offset_fits(precision: u32, o: Offset) -> bool
 fn utc_in_bounds(x: Body) -> bool
     ensures { λ r. ⌜ (r ≡ true → UtcInBounds x) × (UtcInBounds x → r ≡ true) ⌝ }
 {
-    let u = x.utc;
     let o = x.offset;
-    let bounds = (u.year <= 10000)
-        & (u.hour <= 23)
-        & (u.minute <= 59)
-        & (u.second <= 59)
-        & (u.digits <= 18);
-    if !(bounds & offset_fits(u.precision, o)) {
+    let bounds = (x.utc.year <= 10000)
+        & (x.utc.hour <= 23)
+        & (x.utc.minute <= 59)
+        & (x.utc.second <= 59)
+        & (x.utc.digits <= 18);
+    if !(bounds & offset_fits(x.utc.precision, o)) {
         return false;
     }
-    if fraction::power(u.digits as u64) <= x.coefficient {
+    if fraction::power(x.utc.digits as u64) <= x.coefficient {
         return false;
     }
     calendar::is_date(Date {
-        year: u.year,
-        month: u.month,
-        day: u.day,
+        year: x.utc.year,
+        month: x.utc.month,
+        day: x.utc.day,
     })
 }
 
@@ -85,19 +94,15 @@ fn read_parts(x: Body, taken: usize) -> Read
     if !utc_in_bounds(x) {
         return refused(refusal::BODY);
     }
-    let u = x.utc;
     let f = local_fields(x);
-    if f.year < 1 {
-        return refused(refusal::BODY);
-    }
-    if 9999 < f.year {
+    if (f.year < 1) | (9999 < f.year) {
         return refused(refusal::BODY);
     }
     Read {
         number: 0,
         stamp: Timestamp {
             packed_fields: packed::pack(f),
-            attoseconds: x.coefficient * fraction::scale(u.digits as u64),
+            attoseconds: x.coefficient * fraction::scale(x.utc.digits as u64),
         },
         taken: taken,
     }
@@ -125,7 +130,7 @@ fn read_after(s: &[u8], at: usize, n: usize) -> Read
     read_body(&s[at..end], end)
 }
 
-// The timestamp of a body whose length is the byte after 6E.
+// The timestamp of a body whose length follows the type descriptor.
 fn read_length(s: &[u8]) -> Read
     requires { ⌜ 1 ≤ length (now s) ⌝ }
     ensures { λ r. ⌜ r ≡ readLength (drop 1 (now (s .entry))) ⌝ }
@@ -134,13 +139,10 @@ fn read_length(s: &[u8]) -> Read
         return refused(refusal::INPUT_ENDS);
     }
     let c = s[1];
-    if c < 0x8e {
+    if (c < MIN_LENGTH) | (MAX_LENGTH < c) {
         return refused(refusal::BODY);
     }
-    if 0x92 < c {
-        return refused(refusal::BODY);
-    }
-    read_after(s, 2, (c - 0x80) as usize)
+    read_after(s, 2, (c - END_FLAG) as usize)
 }
 
 // Reads the value with which `s` begins. Bytes after it are not read.
@@ -151,14 +153,11 @@ pub fn read_value(s: &[u8]) -> Read
         return refused(refusal::INPUT_ENDS);
     }
     let d = s[0];
-    if d < 0x60 {
+    if (d < TYPE_DESCRIPTOR) | (LENGTH_FOLLOWS < d) {
         return refused(refusal::FIRST_BYTE);
     }
-    if 0x6e < d {
-        return refused(refusal::FIRST_BYTE);
-    }
-    if d == 0x6e {
+    if d == LENGTH_FOLLOWS {
         return read_length(s);
     }
-    read_after(s, 1, (d - 0x60) as usize)
+    read_after(s, 1, (d - TYPE_DESCRIPTOR) as usize)
 }

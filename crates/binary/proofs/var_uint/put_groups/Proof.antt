@@ -82,8 +82,8 @@ put-groups-spec =
     μ-loop
     add-i
     sub-i
-    add-buf
     cast-buf
+    add-buf
     slice-write-buf
     loop-holds
     sub-i-2

@@ -102,8 +102,8 @@ encode-timestamp-value-spec =
     (λ c. search needs)
     returns-2
     (λ c. search needs)
-    add-bytes-2
     cast-bytes-2
+    add-bytes-2
     (λ c. search needs)
     array-share-prefix-bytes
     slice-aggregate-put-bytes

@@ -36,9 +36,8 @@ returns-2 c =
     let f = r .before .before .before .before .before .before in
     let o = f .before .before .args .offset in
     let l = f .read-fields .result in
-    rw (c .raw-of .ensures)
-    (ap found (body-values (f .read-fields .ensures) o _ _ _ (p .precision-with .ensures))
-    ∙ sym (whole r ∙ ap (λ x. afterFields o (take (l .count) (l .values)) (fractionIn x)) (d .digits .given .1)))
+    ap found (body-values (f .read-fields .ensures) o _ _ _ (p .precision-with .ensures) (c .fields-from .ensures))
+    ∙ sym (whole r ∙ ap (λ x. afterFields o (take (l .count) (l .values)) (fractionIn x)) (d .digits .given .1))
 
 returns-3 : tie.Need-returns-3
 returns-3 c =
@@ -54,12 +53,6 @@ after-offset-spec =
     (λ c κs. search needs)
     returns
     (λ c κs. search needs)
-    (λ c. search needs)
-    (λ c. search needs)
-    (λ c. search needs)
-    (λ c. search needs)
-    (λ c. search needs)
-    (λ c. search needs)
     (λ c. search needs)
     (λ c κs. search needs)
     (λ c κs. search needs)

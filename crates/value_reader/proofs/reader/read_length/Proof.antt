@@ -2,11 +2,12 @@
 use borrow.Author.Needs.{needs}
 use mathlib.Core.Path.{_≡_, sym, ap, _∙_}
 use mathlib.Core.List.{[], _∷_}
+use Prim.Native.Nat.{_≤_}
 use native.Mathlib.Omega.{arith}
 use lib.ListN.{drop, getD, drop-of-length-le}
 use lib.Seq.{drop-cons}
 use Rattle.ion.specs.Value.ReadValue.{readLength}
-use Rattle.value_reader.proofs.ReadSteps.{length-none, length-low, length-high, length-is}
+use Rattle.value_reader.proofs.ReadSteps.{outside-false, length-none, length-outside, length-is}
 use Rattle.value_reader.proofs.reader.read_length.Statement.{statement}
 use Rattle.value_reader.proofs.reader.read_length.Tie as tie
 
@@ -24,20 +25,17 @@ returns-2 : tie.Need-returns-2
 returns-2 c =
     let e = c .before .before .before in
     let s = e .before .before .args .s .now in
-    c .refused2 .ensures ∙ sym (ap readLength (byte e) ∙ length-low (getD s 1 0) (drop 2 s) (omega (arith, c .before .if2 .taken)))
+    c .refused2 .ensures ∙ sym (ap readLength (byte e) ∙ length-outside (getD s 1 0) (drop 2 s) (c .before .if2 .taken))
+
+within : (c : tie.Else2) → let b = getD (c .before .before .before .before .args .s .now) 1 0 in (0x8e ≤ b) × (b ≤ 0x92)
+within c = outside-false 0x8e 0x92 (getD (c .before .before .before .before .args .s .now) 1 0) (c .if2 .left)
 
 returns-3 : tie.Need-returns-3
 returns-3 c =
-    let e = c .before .before .before .before in
-    let s = e .before .before .args .s .now in
-    c .refused3 .ensures ∙ sym (ap readLength (byte e) ∙ length-high (getD s 1 0) (drop 2 s) (omega (arith, c .before .if3 .taken)))
-
-returns-4 : tie.Need-returns-4
-returns-4 c =
     let t = c .before in
-    let e = t .before .before .before in
+    let e = t .before .before in
     let s = e .before .before .args .s .now in
-    c .read-after .ensures ∙ sym (ap readLength (byte e) ∙ length-is (getD s 1 0) (drop 2 s) (omega (arith, t .before .if2 .left)) (omega (arith, t .if3 .left)))
+    c .read-after .ensures ∙ sym (ap readLength (byte e) ∙ length-is (getD s 1 0) (drop 2 s) (t .if2 .left))
 
 pub read-length-spec : {M : Type 1} → statement M
 read-length-spec =
@@ -48,9 +46,7 @@ read-length-spec =
     (λ c. search needs)
     (λ c κs. search needs)
     returns-2
+    (λ c. omega (arith, within c))
+    (λ c. omega (arith, within c))
     (λ c κs. search needs)
-    returns-3
-    (λ c. search needs)
-    (λ c. search needs)
-    (λ c κs. search needs)
-    returns-4)
+    returns-3)

@@ -2,11 +2,12 @@
 use borrow.Author.Needs.{needs}
 use mathlib.Core.Path.{_≡_, sym, ap, _∙_}
 use mathlib.Core.List.{[], _∷_}
+use Prim.Native.Nat.{_≤_}
 use native.Mathlib.Omega.{arith}
 use lib.ListN.{drop, getD, drop-of-length-le}
 use lib.Seq.{drop-cons}
 use Rattle.ion.specs.Value.ReadValue.{readValue}
-use Rattle.value_reader.proofs.ReadSteps.{first-none, first-low, first-high, first-long, first-short}
+use Rattle.value_reader.proofs.ReadSteps.{outside-false, first-none, first-outside, first-long, first-short}
 use Rattle.value_reader.proofs.reader.read_value.Statement.{statement}
 use Rattle.value_reader.proofs.reader.read_value.Tie as tie
 
@@ -21,19 +22,19 @@ byte : (c : tie.Else1) → let s = c .before .before .args .s .now in s ≡ getD
 byte c = drop-cons (c .before .before .args .s .now) 0 0 (omega (arith, c .if1 .left))
 
 returns-2 : tie.Need-returns-2
-returns-2 c = c .refused2 .ensures ∙ sym (ap readValue (byte (c .before .before .before)) ∙ first-low _ _ (c .before .if2 .taken))
+returns-2 c = c .refused2 .ensures ∙ sym (ap readValue (byte (c .before .before .before)) ∙ first-outside _ _ (c .before .if2 .taken))
 
 returns-3 : tie.Need-returns-3
-returns-3 c = c .refused3 .ensures ∙ sym (ap readValue (byte (c .before .before .before .before)) ∙ first-high _ _ (c .before .if3 .taken))
+returns-3 c = c .read-length .ensures ∙ sym (ap readValue (byte (c .before .before .before .before)) ∙ first-long _ _ (c .before .if3 .taken))
+
+within : (c : tie.Else2) → let b = getD (c .before .before .before .before .args .s .now) 0 0 in (0x60 ≤ b) × (b ≤ 0x6e)
+within c = outside-false 0x60 0x6e (getD (c .before .before .before .before .args .s .now) 0 0) (c .if2 .left)
 
 returns-4 : tie.Need-returns-4
-returns-4 c = c .read-length .ensures ∙ sym (ap readValue (byte (c .before .before .before .before .before)) ∙ first-long _ _ (c .before .if4 .taken))
-
-returns-5 : tie.Need-returns-5
-returns-5 c =
+returns-4 c =
     let e = c .before in
     let t = e .before in
-    c .read-after .ensures ∙ sym (ap readValue (byte (t .before .before .before)) ∙ first-short _ _ (t .before .if2 .left) (t .if3 .left) (e .if4 .left))
+    c .read-after .ensures ∙ sym (ap readValue (byte (t .before .before)) ∙ first-short _ _ (t .if2 .left) (e .if3 .left))
 
 pub read-value-spec : {M : Type 1} → statement M
 read-value-spec =
@@ -46,8 +47,7 @@ read-value-spec =
     returns-2
     (λ c κs. search needs)
     returns-3
+    (λ c. omega (arith, within (c .before)))
+    (λ c. omega (arith, within (c .before)))
     (λ c κs. search needs)
-    returns-4
-    (λ c. search needs)
-    (λ c κs. search needs)
-    returns-5)
+    returns-4)
