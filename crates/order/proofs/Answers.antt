@@ -1,10 +1,8 @@
 -- The two checks before an answer about two timestamps, and the answers where both are accepted. Assumes nothing.
-use mathlib.Core.Path.{_≡_, sym, ap, _∙_}
-use Prim.Native.Nat.{ℕ}
+use mathlib.Core.Path.{_≡_, sym, _∙_}
 use native.Mathlib.Decide.{ℕ-discrete}
 use lib.Dec.{eqb}
 use Rattle.ion.specs.Pair.Count.{countOf}
-use Rattle.ion.specs.Calls.Answered.{answered}
 use Rattle.ion.specs.Calls.Check.{checkNumber}
 use Rattle.ion.specs.Calls.Accepted.{Accepted}
 use Rattle.ion.specs.Calls.Order.{checkBoth, orderOf, ordered, refusedOrder, cmpOf, compared, refusedCompared, eqOf}
@@ -25,11 +23,6 @@ module _ (s t : Timestamp) where
       go : Dec (checkNumber s ≡ 0) → Accepted s × Accepted t
       go (yes h) = (check-gives s h, check-gives t (sym (answered-zero (checkNumber s) (checkNumber t) (λ n. n) h) ∙ e))
       go (no h) = absurd (h (sym (answered-refused (checkNumber s) (checkNumber t) (λ n. n) h) ∙ e))
-
--- a refusal with a number as it was answered
-pub refused-alone :
-    {A : Type 0} {n r : ℕ} (a : A) (refused : ℕ → A) → r ≡ n → (r ≡ 0 → ⊥) → refused r ≡ answered n a refused
-refused-alone {A} {n} {r} a refused e h = ap refused e ∙ sym (answered-refused n a refused (λ z. h (e ∙ z)))
 
 -- ---- of accepted timestamps `cmp`, `==` and the distance are by the counts
 

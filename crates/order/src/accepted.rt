@@ -4,13 +4,11 @@ use crate::counts::order_of_pairs;
 use crate::seconds::seconds_of_both;
 use ion::Distance;
 use ion::Timestamp;
+use packed::SECOND_SHIFT;
 ghost use mathlib.Core.Path.{_≡_};
 ghost use Rattle.ion.specs.Calls.Accepted.{Accepted};
 ghost use Rattle.ion.specs.Pair.Count.{countOf};
 ghost use Rattle.ion.specs.Calls.Order.{orderOf, distanceOfCounts};
-
-// Where the second stands in a packed word, with the date and time above it.
-const SECOND_SHIFT: u64 = 24;
 
 // -1, 0 or 1. With the same offset no day is counted: the words cut at the second lie as the instants do.
 pub(crate) fn order_of(s: Timestamp, t: Timestamp) -> i32

@@ -3,7 +3,7 @@ use mathlib.Core.Path.{_≡_, refl, sym, ap, ap₂, _∙_}
 use Prim.Native.Nat.{ℕ, _*_, _/_, _^_, _≤_, _<_, min}
 use native.Mathlib.Nat.{mul-mod-left, mul-div-cancel}
 use native.Mathlib.Omega.{arith}
-use Rattle.ion.specs.Pair.Offset.{WithinDay, rawOffset, rawOf, offsetOf}
+use Rattle.ion.specs.Pair.Offset.{WithinDay, rawOffset, offsetOf}
 use Rattle.ion.specs.Calendar.Shift.{IsDateTime}
 use Rattle.ion.specs.Pair.Fraction.{scale}
 use Rattle.ion.specs.Calls.Accepted.{Valid, timeIn}

@@ -1,20 +1,18 @@
 -- The value of an accepted timestamp is read back, whatever follows it, and whatever is read begins with such a value.
 -- Assumes nothing.
 use mathlib.Core.Path.{_≡_, refl, sym, ap, ap₂, _∙_}
-use mathlib.Core.List.{List, [], _∷_, _++_}
+use mathlib.Core.List.{List, _++_}
 use Prim.Native.Nat.{ℕ, suc, _+_, _-_, _*_, _/_, _≤_, _<_}
-use native.Mathlib.Nat.{div-le-self}
 use native.Mathlib.Omega.{arith}
 use native.Mathlib.Decide.{decLe}
 use borrow.Author.Tests.{le-ltb, ne-eqb}
-use lib.Dec.{lit≤}
-use lib.ListN.{length, take, length-append}
+use lib.ListN.{length, length-append}
 use lib.Seq.{take-at}
 use Rattle.ion.specs.Pair.Pair.{wordIn, packedPair}
 use Rattle.ion.specs.Pair.Word.{wordOf, fieldsOf}
 use Rattle.ion.specs.Pair.Fraction.{scale}
 use Rattle.ion.specs.Calls.Accepted.{Accepted}
-use Rattle.ion.specs.Value.Encode.{offsetBytes, varuints, fieldList, fieldCount, fractionBytes, bodyFrom, bodyOf, valueOf}
+use Rattle.ion.specs.Value.Encode.{bodyOf, valueOf}
 use Rattle.ion.specs.Value.Decode.{found, decodeBody, pairFrom}
 use Rattle.ion.specs.Value.ReadValue.{acceptedReading, isBodyOf, takenAs, readBody, readAfter, readLength, readValue}
 use Rattle.ion.specs.declared.Timestamp.{Timestamp}

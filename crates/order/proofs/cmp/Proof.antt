@@ -3,14 +3,14 @@ use mathlib.Core.Path.{_≡_, sym, ap, _∙_}
 use mir.Facts.{toZ-ofZ}
 use borrow.Author.Needs.{needs, sfits-of}
 use Rattle.ion.specs.Calls.Order.{checkBoth, ordered, refusedOrder, cmpOf}
-use Rattle.ion.proofs.Answers.{answered-zero}
-use Rattle.order.proofs.Answers.{both-accepted, refused-alone}
+use Rattle.ion.proofs.Answers.{refused-by, answered-zero}
+use Rattle.order.proofs.Answers.{both-accepted}
 use Rattle.order.proofs.cmp.Statement.{statement}
 use Rattle.order.proofs.cmp.Tie as tie
 
 returns : tie.Need-returns
 unfolding cmpOf
-returns c = refused-alone _ refusedOrder (c .before .check-both .ensures) (c .if1 .taken)
+returns c = refused-by _ refusedOrder (c .before .check-both .ensures) (c .if1 .taken)
 
 -- both checks have answered 0
 zero : (c : tie.Else1) → let x = c .before .before .args in checkBoth (x .s) (x .t) ≡ 0

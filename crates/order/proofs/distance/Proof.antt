@@ -2,14 +2,14 @@
 use mathlib.Core.Path.{_≡_, sym, _∙_}
 use borrow.Author.Needs.{needs}
 use Rattle.ion.specs.Calls.Order.{checkBoth, refusedDistance, distanceOf}
-use Rattle.ion.proofs.Answers.{answered-zero}
-use Rattle.order.proofs.Answers.{both-accepted, refused-alone}
+use Rattle.ion.proofs.Answers.{refused-by, answered-zero}
+use Rattle.order.proofs.Answers.{both-accepted}
 use Rattle.order.proofs.distance.Statement.{statement}
 use Rattle.order.proofs.distance.Tie as tie
 
 returns : tie.Need-returns
 unfolding distanceOf
-returns c = refused-alone _ refusedDistance (c .before .check-both .ensures) (c .if1 .taken)
+returns c = refused-by _ refusedDistance (c .before .check-both .ensures) (c .if1 .taken)
 
 -- both checks have answered 0
 zero : (c : tie.Else1) → let x = c .before .before .args in checkBoth (x .s) (x .t) ≡ 0

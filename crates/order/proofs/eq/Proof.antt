@@ -7,15 +7,15 @@ use mir.Val.{ofZ}
 use borrow.Author.Needs.{needs}
 use Rattle.ion.specs.Pair.Count.{countOf}
 use Rattle.ion.specs.Calls.Order.{checkBoth, compared, refusedCompared, eqOf}
-use Rattle.ion.proofs.Answers.{answered-zero}
+use Rattle.ion.proofs.Answers.{refused-by, answered-zero}
 use Rattle.order.proofs.Orders.{order-zero}
-use Rattle.order.proofs.Answers.{both-accepted, refused-alone}
+use Rattle.order.proofs.Answers.{both-accepted}
 use Rattle.order.proofs.eq.Statement.{statement}
 use Rattle.order.proofs.eq.Tie as tie
 
 returns : tie.Need-returns
 unfolding eqOf
-returns c = refused-alone _ refusedCompared (c .before .check-both .ensures) (c .if1 .taken)
+returns c = refused-by _ refusedCompared (c .before .check-both .ensures) (c .if1 .taken)
 
 -- both checks have answered 0
 zero : (c : tie.Else1) → let x = c .before .before .args in checkBoth (x .s) (x .t) ≡ 0

@@ -3,14 +3,13 @@ use mathlib.Core.Path.{sym, ap, _∙_}
 use mir.Facts.{toZ-ofZ}
 use borrow.Author.Needs.{needs, sfits-of}
 use Rattle.ion.specs.Calls.Order.{ordered, refusedOrder, ionCmpOf}
-use Rattle.ion.proofs.Answers.{answered-zero}
-use Rattle.order.proofs.Answers.{refused-alone}
+use Rattle.ion.proofs.Answers.{refused-by, answered-zero}
 use Rattle.order.proofs.ion_cmp.Statement.{statement}
 use Rattle.order.proofs.ion_cmp.Tie as tie
 
 returns : tie.Need-returns
 unfolding ionCmpOf
-returns c = refused-alone _ refusedOrder (c .before .check-both .ensures) (c .if1 .taken)
+returns c = refused-by _ refusedOrder (c .before .check-both .ensures) (c .if1 .taken)
 
 returns-2 : tie.Need-returns-2
 unfolding ionCmpOf

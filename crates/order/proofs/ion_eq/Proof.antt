@@ -2,14 +2,13 @@
 use mathlib.Core.Path.{sym, _∙_}
 use borrow.Author.Needs.{needs}
 use Rattle.ion.specs.Calls.Order.{refusedCompared, ionEqOf}
-use Rattle.ion.proofs.Answers.{answered-zero}
-use Rattle.order.proofs.Answers.{refused-alone}
+use Rattle.ion.proofs.Answers.{refused-by, answered-zero}
 use Rattle.order.proofs.ion_eq.Statement.{statement}
 use Rattle.order.proofs.ion_eq.Tie as tie
 
 returns : tie.Need-returns
 unfolding ionEqOf
-returns c = refused-alone _ refusedCompared (c .before .check-both .ensures) (c .if1 .taken)
+returns c = refused-by _ refusedCompared (c .before .check-both .ensures) (c .if1 .taken)
 
 returns-2 : tie.Need-returns-2
 unfolding ionEqOf

@@ -6,15 +6,13 @@ use Rattle.ion.specs.Pair.Word.{fieldsOf}
 use Rattle.ion.specs.Calls.Reads.{refusedOffset, offsetFieldOf}
 use Rattle.ion.specs.declared.offset.Offset.{Offset}
 use Rattle.ion.specs.declared.OffsetField.{OffsetField}
-use Rattle.ion.proofs.Answers.{answered-zero, answered-refused}
+use Rattle.ion.proofs.Answers.{answered-zero, refused-by}
 use Rattle.timestamp_fields.proofs.offset.Statement.{statement}
 use Rattle.timestamp_fields.proofs.offset.Tie as tie
 
 returns : tie.Need-returns
 unfolding offsetFieldOf
-returns c =
-    let e = c .before .check-number .ensures in
-    ap refusedOffset e ∙ sym (answered-refused _ _ refusedOffset (λ z. c .if1 .taken (e ∙ z)))
+returns c = refused-by _ refusedOffset (c .before .check-number .ensures) (c .if1 .taken)
 
 abbrev accepted : Offset → OffsetField
 accepted o = record { number = 0; value = o }

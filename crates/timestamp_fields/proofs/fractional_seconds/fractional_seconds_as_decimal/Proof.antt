@@ -12,16 +12,14 @@ use Rattle.ion.specs.Pair.Word.{fieldsOf}
 use Rattle.ion.specs.Pair.Fraction.{scale}
 use Rattle.ion.specs.Calls.Reads.{refusedDecimal, decimalFieldOf}
 use Rattle.ion.specs.declared.DecimalField.{DecimalField}
-use Rattle.ion.proofs.Answers.{answered-zero, answered-refused}
+use Rattle.ion.proofs.Answers.{answered-zero, refused-by}
 use Rattle.fraction.proofs.Scales.{scale-pos}
 use Rattle.timestamp_fields.proofs.fractional_seconds.fractional_seconds_as_decimal.Statement.{statement}
 use Rattle.timestamp_fields.proofs.fractional_seconds.fractional_seconds_as_decimal.Tie as tie
 
 returns : tie.Need-returns
 unfolding decimalFieldOf
-returns c =
-    let e = c .before .check-number .ensures in
-    ap refusedDecimal e ∙ sym (answered-refused _ _ refusedDecimal (λ z. c .if1 .taken (e ∙ z)))
+returns c = refused-by _ refusedDecimal (c .before .check-number .ensures) (c .if1 .taken)
 
 div : tie.Need-div-t7
 div c = let b = c .before in rw (b .scale .ensures) (scale-pos (b .before .digits .result))
