@@ -6,7 +6,8 @@ use lib.IntN.{ℤ}
 use Rattle.ion.specs.Pair.Offset.{offsetMinutes}
 use Rattle.ion.specs.Pair.Fraction.{milliseconds, microseconds, nanoseconds, nanosecondsTo, decimal}
 use Rattle.ion.specs.Calls.Build.{refusedBuild, buildOf}
-use Rattle.ion.specs.Calls.Stages.{fromZero, withYear, withMonth, withDay, withHour, withHourAndMinute, withSecond, withFraction, withOffset}
+use Rattle.ion.specs.Calls.Stages.{fromZero, withYear, withMonth, withDay, withHour, withHourAndMinute}
+use Rattle.ion.specs.Calls.Stages.{withSecond, withFraction, withOffset}
 use Rattle.ion.specs.declared.Built.{Built}
 use Rattle.ion.specs.declared.Fraction.{Fraction}
 use Rattle.ion.specs.declared.BuilderFields.{BuilderFields}
@@ -54,24 +55,26 @@ fractionGiven x =
     (decimal (record { negative = eqb (x .fraction) 6; coefficient = x .coefficient; exponent = x .exponent })))))
 
 -- 0 none
-abbrev pub withFractionGiven : FieldSet → BuilderFields → BuilderFields
+unfoldable pub withFractionGiven : FieldSet → BuilderFields → BuilderFields
 withFractionGiven x f = cond (eqb (x .fraction) 0) f (withFraction f (fractionGiven x))
 
 -- 0 none, 1 the fields are local, 2 they are in UTC
-abbrev pub offsetGiven : ℕ → ℤ → BuilderFields → BuilderFields
-offsetGiven offset minutes f =
+unfoldable pub withOffsetGiven : ℕ → ℤ → BuilderFields → BuilderFields
+withOffsetGiven offset minutes f =
     cond (eqb offset 0) f
     (cond (eqb offset 1) (withOffset f (FromLocalFields (offsetMinutes minutes)))
     (withOffset f (FromUtcFields (offsetMinutes minutes))))
 
+-- the fields to the minute with a second, and perhaps a fraction and an offset
 abbrev pub secondGiven : FieldSet → BuilderFields → BuilderFields
-secondGiven x f = offsetGiven (x .offset) (x .minutes) (withFractionGiven x (withSecond f (x .second)))
+secondGiven x f = withOffsetGiven (x .offset) (x .minutes) (withFractionGiven x (withSecond f (x .second)))
 
-abbrev pub timeGiven : FieldSet → BuilderFields → BuilderFields
+-- a date with an hour alone, an hour and a minute, or a second
+unfoldable pub timeGiven : FieldSet → BuilderFields → BuilderFields
 timeGiven x f =
     let minute = withHourAndMinute f (x .hour) (x .minute) in
-    cond (eqb (x .stage) 3) (offsetGiven (x .offset) (x .minutes) (withHour f (x .hour)))
-    (cond (eqb (x .stage) 4) (offsetGiven (x .offset) (x .minutes) minute) (secondGiven x minute))
+    cond (eqb (x .stage) 3) (withOffsetGiven (x .offset) (x .minutes) (withHour f (x .hour)))
+    (cond (eqb (x .stage) 4) (withOffsetGiven (x .offset) (x .minutes) minute) (secondGiven x minute))
 
 abbrev pub monthGiven : FieldSet → BuilderFields
 monthGiven x = withMonth (withYear (x .year)) (counted (x .month0) (x .month))
@@ -81,13 +84,15 @@ dayGiven x = withDay (monthGiven x) (counted (x .day0) (x .day))
 
 -- stage 0 year, 1 month, 2 day, 3 hour alone, 4 hour and minute, 5 second; what is finer is not given, a fraction only with the
 -- second, an offset only from the hour on
-abbrev pub fieldsGiven : FieldSet → BuilderFields
+unfoldable pub fieldsGiven : FieldSet → BuilderFields
 fieldsGiven x =
     cond (eqb (x .stage) 0) (withYear (x .year))
     (cond (eqb (x .stage) 1) (monthGiven x) (cond (eqb (x .stage) 2) (dayGiven x) (timeGiven x (dayGiven x))))
 
+-- whether each code stands for something
 abbrev pub isCoded : FieldSet → Bool
 isCoded x = leb (x .stage) 5 && leb (x .fraction) 6 && leb (x .offset) 2
 
+-- what the builder answers to a field set
 unfoldable pub builtFrom : FieldSet → Built
 builtFrom x = cond (isCoded x) (buildOf (fieldsGiven x)) (refusedBuild unknownCode)

@@ -1,10 +1,8 @@
 // Staged field sets in numbers, as tests and recorded answers have them, given to the builder stage by stage.
-mod given;
-mod offsets;
-mod staged;
+mod stages;
 
 use ion::Built;
-use staged::build_staged;
+use stages::build_staged;
 ghost use mathlib.Core.Path.{_≡_};
 ghost use Rattle.test_field_sets.specs.FieldSets.{isCoded, builtFrom};
 
