@@ -43,7 +43,8 @@ pub fn put_digits(buf: &mut [u8], at: usize, n: usize, value: u64)
 
 // Writes `value`, with zeros in front up to `width` digits, from index `at` on.
 pub fn write_zero_padded(buf: &mut [u8], at: usize, value: u64, width: usize) -> Written
-    ensures { λ r. ⌜ (r ≡ wrote (now (buf .entry)) at (padded width value)) × (now (buf .exit) ≡ put (now (buf .entry)) at (padded width value)) ⌝ }
+    ensures { λ r. ⌜ r ≡ wrote (now (buf .entry)) at (padded width value) ⌝ }
+    ensures { λ _. ⌜ now (buf .exit) ≡ put (now (buf .entry)) at (padded width value) ⌝ }
 {
     let n = padded_count(value, width);
     let answer = output::room_for(buf.len(), at, n);

@@ -16,7 +16,13 @@ loop-holds : tie.Need-loop-holds Inv-loop μ-loop
 loop-holds c = count-start 10 (lit< tt) (c .args .value)
 
 add-n : tie.Need-add-n Inv-loop μ-loop
-add-n c = omega (arith, counted-below 10 (lit< tt) (c .before .loop .inv) (c .loop-test .taken), count-u64 (c .before .before .args .value) (c .before .before .fits .value .fits))
+add-n c =
+    let s = c .before .before in
+    omega (
+      arith,
+      counted-below 10 (lit< tt) (c .before .loop .inv) (c .loop-test .taken),
+      count-u64 (s .args .value) (s .fits .value .fits),
+    )
 
 loop-again : tie.Need-loop-again Inv-loop μ-loop
 loop-again c = count-turn 10 (lit< tt) (c .before .loop .inv) (c .loop-test .taken)

@@ -39,8 +39,9 @@ returns : tie.Need-returns
 returns c =
     let a = c .args in
     let e = two-digits (a .value) (c .pre .1) in
+    let s = two-stored (a .buf .now) (a .at) (48 + a .value / 10) (48 + a .value % 10) (c .pre .0) in
     record {
-      bytes = two-stored (a .buf .now) (a .at) (48 + a .value / 10) (48 + a .value % 10) (c .pre .0) ∙ ap (over (a .buf .now) (a .at)) (sym e);
+      bytes = s ∙ ap (over (a .buf .now) (a .at)) (sym e);
       next = rw e;
     }
 

@@ -14,7 +14,8 @@ answered : (c : tie.After-room-for)
     → let a = c .before .before .before .args in c .room-for .result ≡ wrote (a .buf .now) (a .at) (padded (a .width) (a .value))
 answered c =
     let a = c .before .before .before .args in
-    c .room-for .ensures ∙ ap (roomFor (length (a .buf .now)) (a .at)) (c .before .padded-count .ensures ∙ sym (length-padded (a .width) (a .value)))
+    c .room-for .ensures
+    ∙ ap (roomFor (length (a .buf .now)) (a .at)) (c .before .padded-count .ensures ∙ sym (length-padded (a .width) (a .value)))
 
 returns : tie.Need-returns
 returns c =
@@ -26,7 +27,12 @@ put-digits-requires : tie.Need-put-digits-requires
 put-digits-requires c κs =
     let r = c .before .before .before in
     let a = r .before .before .before .args in
-    omega (arith, has-room (a .buf .now) (a .at) (padded (a .width) (a .value)) (answered r) (c .before .if1 .left), length-padded (a .width) (a .value), r .before .padded-count .ensures)
+    omega (
+      arith,
+      has-room (a .buf .now) (a .at) (padded (a .width) (a .value)) (answered r) (c .before .if1 .left),
+      length-padded (a .width) (a .value),
+      r .before .padded-count .ensures,
+    )
 
 returns-2 : tie.Need-returns-2
 returns-2 c =
