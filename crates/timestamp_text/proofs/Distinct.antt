@@ -2,7 +2,7 @@
 use mathlib.Core.Path.{_≡_, sym, ap, _∙_}
 use Prim.Native.Nat.{ℕ}
 use Rattle.ion.specs.Pair.Word.{wordOf}
-use Rattle.ion.specs.Pair.Pair.{wordIn, packedPair}
+use Rattle.ion.specs.Pair.Pair.{packedPair}
 use Rattle.ion.specs.Calls.Build.{buildOf}
 use Rattle.ion.specs.Calls.Check.{rebuilt}
 use Rattle.ion.specs.Text.Format.{fieldsText, textOf}
@@ -10,8 +10,7 @@ use Rattle.ion.specs.Calls.Accepted.{Valid, Accepted}
 use Rattle.ion.specs.declared.Fields.{Fields}
 use Rattle.ion.specs.declared.Timestamp.{Timestamp}
 use Rattle.ion.specs.declared.Built.{Built}
-use Rattle.packed.proofs.Words.{fields-inj}
-use Rattle.timestamp.proofs.Valid.{valid-in-range, accepted-word}
+use Rattle.timestamp.proofs.Valid.{accepted-word}
 use Rattle.timestamp.proofs.CheckedFields.{rebuilt-builds}
 use Rattle.timestamp_text.proofs.ReadBack.{read-text}
 
@@ -22,11 +21,6 @@ module _ {f g : Fields} {a b : ℕ} (v : Valid f a) (w : Valid g b) (e : fieldsT
       let q = read-text g b w in
       let r : rebuilt f a ≡ rebuilt g b = cc in
       ap (λ (x : Built). x .stamp) (sym (rebuilt-builds v) ∙ ap buildOf r ∙ rebuilt-builds w)
-
-  -- valid fields and attoseconds with equal texts are equal
-  pub fields-text-inj : (f ≡ g) × (a ≡ b)
-  fields-text-inj =
-      (fields-inj f g (valid-in-range v) (valid-in-range w) (ap wordIn same-pair), ap (λ (s : Timestamp). s .attoseconds) same-pair)
 
 pub text-inj : (s t : Timestamp) → Accepted s → Accepted t → textOf s ≡ textOf t → s ≡ t
 unfolding textOf

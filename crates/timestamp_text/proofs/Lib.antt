@@ -1,7 +1,6 @@
+-- What the proofs of several functions, and the crates above, use.
 pub mod Distinct
-pub mod Forms
 pub mod Lengths
-pub mod Numbers
-pub mod Offsets
+mod Numbers
+mod Offsets
 pub mod ReadBack
-pub mod Signs

@@ -1,6 +1,6 @@
--- The text of an offset: how it begins, and that it is read back. Assumes nothing.
+-- The text of an offset: that it is read back, how it begins, and what it is by its sign. Assumes nothing.
 use mathlib.Core.Path.{_≡_, refl, ap, _∙_}
-use mathlib.Core.Bool.{false}
+use mathlib.Core.Bool.{true, false, true≢false, false≢true}
 use mathlib.Core.List.{List, [], _∷_, _++_}
 use Prim.Native.Char.{code}
 use Prim.Native.Nat.{ℕ, zero, suc, _+_, _*_, _/_, _%_, _≤_, _<_}
@@ -8,7 +8,9 @@ use native.Mathlib.Omega.{arith}
 use borrow.Author.Tests.{le-ltb}
 use lib.Dec.{eqb, lit≤}
 use lib.IntN.{ℤ, pos, negsuc, natAbs}
+use lib.Signed.{ltZ}
 use lib.ListN.{drop, getD}
+use Rattle.integers.proofs.Parts.{lt-parts, ge-parts}
 use Rattle.places.specs.Places.{placesOn, places}
 use Rattle.ion.specs.Text.Ascii.{ascii}
 use Rattle.ion.specs.Numbers.Padded.{lastDigits}
@@ -53,13 +55,13 @@ read-minutes (pos zero) h = refl
 read-minutes (pos (suc n)) h =
     let e : suc n / 60 * 60 + suc n % 60 ≡ suc n = omega arith in
     let l : suc n % 60 ≤ 59 = omega arith in
-    read-clock (code "+") (suc n) h refl (same-not (code "+" ∷ clockText (suc n)) zeroText (clock-some (code "+") (code "+") (suc n) (omega arith) h)) refl
-    ∙ rw (le-ltb 59 (suc n % 60) l, e)
+    let k = same-not (code "+" ∷ clockText (suc n)) zeroText (clock-some (code "+") (code "+") (suc n) (omega arith) h) in
+    read-clock (code "+") (suc n) h refl k refl ∙ rw (le-ltb 59 (suc n % 60) l, e)
 read-minutes (negsuc n) h =
     let e : suc n / 60 * 60 + suc n % 60 ≡ suc n = omega arith in
     let l : suc n % 60 ≤ 59 = omega arith in
-    read-clock (code "-") (suc n) h (same-not (code "-" ∷ clockText (suc n)) unknownText (clock-some (code "-") (code "-") (suc n) (omega arith) h)) refl refl
-    ∙ rw (le-ltb 59 (suc n % 60) l, e)
+    let k = same-not (code "-" ∷ clockText (suc n)) unknownText (clock-some (code "-") (code "-") (suc n) (omega arith) h) in
+    read-clock (code "-") (suc n) h k refl refl ∙ rw (le-ltb 59 (suc n % 60) l, e)
 
 -- an offset is read back from its text
 pub read-offset : (o : Offset) → WithinDay o → readOffset (offsetText o) ≡ offset o
@@ -87,3 +89,22 @@ offset-mark o c p m = offset-begins (λ l. eqb (getD l 0 0) c ≡ false) (λ t. 
 pub run-offset : (o : Offset) → digitRun (offsetText o) ≡ 0
 unfolding digitRun
 run-offset o = offset-begins (λ l. digitRun l ≡ 0) (λ t. refl) (λ t. refl) o
+
+-- ---- the text of a known offset by its sign
+
+pub minutes-below : (z : ℤ) → ltZ z (pos 0) ≡ true → minutesText z ≡ code "-" ∷ clockText (natAbs z)
+unfolding minutesText
+minutes-below (pos n) h = absurd (omega (arith, lt-parts (pos n) (pos 0) h))
+minutes-below (negsuc n) h = refl
+
+pub minutes-above : (z : ℤ) → ltZ (pos 0) z ≡ true → minutesText z ≡ code "+" ∷ clockText (natAbs z)
+unfolding minutesText
+minutes-above (pos zero) h = absurd (omega (arith, lt-parts (pos 0) (pos 0) h))
+minutes-above (pos (suc n)) h = refl
+minutes-above (negsuc n) h = absurd (false≢true h)
+
+pub minutes-none : (z : ℤ) → ltZ z (pos 0) ≡ false → ltZ (pos 0) z ≡ false → minutesText z ≡ zeroText
+unfolding minutesText
+minutes-none (pos zero) h k = refl
+minutes-none (pos (suc n)) h k = absurd (omega (arith, ge-parts (pos 0) (pos (suc n)) k))
+minutes-none (negsuc n) h k = absurd (true≢false h)

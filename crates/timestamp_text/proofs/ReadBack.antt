@@ -19,7 +19,8 @@ use Rattle.ion.specs.Calls.Check.{rebuilt}
 use Rattle.ion.specs.Text.Format.{marked, fractionText, offsetText, fieldsText}
 use Rattle.ion.specs.Calls.Accepted.{Valid}
 use Rattle.ion.specs.Value.ReadValue.{same}
-use Rattle.ion.specs.Text.ReadText.{fields, markedAt, digitRun, afterPoint, afterSecond, afterMinute, afterHour, afterDay, afterMonth, afterYear, readText}
+use Rattle.ion.specs.Text.ReadText.{fields, markedAt, digitRun, readText}
+use Rattle.ion.specs.Text.ReadText.{afterPoint, afterSecond, afterMinute, afterHour, afterDay, afterMonth, afterYear}
 use Rattle.ion.specs.declared.Fields.{Fields}
 use Rattle.ion.specs.declared.BuilderFields.{BuilderFields}
 use Rattle.ion.specs.declared.offset.Offset.{Offset}
@@ -88,8 +89,11 @@ module _ (f : Fields) (a : ℕ) (v : Valid f a) where
 
   -- and the fields read from it
 
+  abbrev atDay : BuilderFields
+  atDay = withDay (withMonth (withYear (f .year)) (f .month)) (f .day)
+
   abbrev atMinute : BuilderFields
-  atMinute = withMinute (withHour (withDay (withMonth (withYear (f .year)) (f .month)) (f .day)) (f .hour)) (f .minute)
+  atMinute = withMinute (withHour atDay (f .hour)) (f .minute)
 
   read-year : (t : List ℕ) → readText (toYear t) ≡ afterYear (toYear t) (withYear (f .year))
   unfolding readText
@@ -99,11 +103,11 @@ module _ (f : Fields) (a : ℕ) (v : Valid f a) where
   unfolding places placesOn same markedAt afterYear
   read-month t = read-year (mark (code "-") (f .month) ++ t) ∙ rw (value-digits 2 (f .month) t month-lt)
 
-  read-day : (t : List ℕ) → readText (toDay t) ≡ afterDay (toDay t) (withDay (withMonth (withYear (f .year)) (f .month)) (f .day))
+  read-day : (t : List ℕ) → readText (toDay t) ≡ afterDay (toDay t) atDay
   unfolding places placesOn same markedAt afterMonth
   read-day t = read-month (mark (code "-") (f .day) ++ t) ∙ rw (value-digits 2 (f .day) t day-lt)
 
-  read-hour : (t : List ℕ) → readText (toHour t) ≡ afterHour (toHour t) (withHour (withDay (withMonth (withYear (f .year)) (f .month)) (f .day)) (f .hour))
+  read-hour : (t : List ℕ) → readText (toHour t) ≡ afterHour (toHour t) (withHour atDay (f .hour))
   unfolding places placesOn same markedAt afterDay
   read-hour t = read-day (mark (code "T") (f .hour) ++ t) ∙ rw (value-digits 2 (f .hour) t (omega arith))
 
@@ -185,7 +189,8 @@ module _ (f : Fields) (a : ℕ) (v : Valid f a) where
         let e₂ : min d 19 ≡ d = omega arith in
         let e₃ = cap-low (cutTo d a) (omega (arith, cut-le d a)) in
         let e₄ = sym (drop-drop d 20 (toSecond (code "." ∷ digitsAndOffset))) ∙ rest in
-        rw (run, e₁, e₂, ne-eqb d 0 (omega arith), lt-ltb 0 d l, value-digits d coefficient (offsetText offsetIn) (units-lt d a h (v .attoseconds)), e₃, e₄, read-offset offsetIn within)
+        let e₅ = value-digits d coefficient (offsetText offsetIn) (units-lt d a h (v .attoseconds)) in
+        rw (run, e₁, e₂, ne-eqb d 0 (omega arith), lt-ltb 0 d l, e₅, e₃, e₄, read-offset offsetIn within)
 
   second-read : (d : ℕ) → d ≤ 18 → readText (fieldsText (at 4 d) a) ≡ fields (rebuilt (at 4 d) a)
   unfolding places placesOn fractionText
@@ -203,7 +208,9 @@ module _ (f : Fields) (a : ℕ) (v : Valid f a) where
   read-at (suc zero) d h k = ap readText (month-text d) ∙ read-month (ascii "T")
   read-at (suc (suc zero)) d h k = ap readText (day-text d) ∙ read-day (ascii "T")
   read-at (suc (suc (suc zero))) d h k =
-      ap readText (minute-text d) ∙ read-minute (offsetText offsetIn) ∙ rw (offset-mark offsetIn (code ":") refl refl, read-offset offsetIn within)
+      ap readText (minute-text d)
+      ∙ read-minute (offsetText offsetIn)
+      ∙ rw (offset-mark offsetIn (code ":") refl refl, read-offset offsetIn within)
   read-at (suc (suc (suc (suc zero)))) d h k = second-read d k
   read-at (suc (suc (suc (suc (suc p))))) d h k = absurd (omega arith)
 

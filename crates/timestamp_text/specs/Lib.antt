@@ -1,2 +1,2 @@
-pub mod Fronts
-pub mod Length
+-- Definitions of what the functions that are not public write.
+pub mod TextParts

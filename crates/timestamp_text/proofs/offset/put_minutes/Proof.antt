@@ -1,6 +1,6 @@
 -- `offset::put_minutes` meets its contract. Assumes nothing.
 use borrow.Author.Needs.{needs}
-use mathlib.Core.Path.{_≡_, refl}
+use mathlib.Core.Path.{_≡_, refl, sym}
 use mathlib.Core.Bool.{true}
 use Prim.Native.Nat.{_<_}
 use native.Mathlib.Omega.{arith}
@@ -12,9 +12,8 @@ use mir.Facts.{toZ-ofZ}
 use Rattle.integers.proofs.Parts.{IsNatural, may-cast, to-unsigned, natural-fits}
 use Rattle.integers.proofs.Signs.{above-is, negated-is}
 use Rattle.ion.proofs.Offsets.{offset-fits}
-use Rattle.output.proofs.Runs.{run-two}
-use Rattle.timestamp_text.proofs.Lengths.{length-clock}
-use Rattle.timestamp_text.proofs.Signs.{minutes-below, minutes-above, minutes-none}
+use Rattle.output.proofs.Runs.{run-is}
+use Rattle.timestamp_text.proofs.Offsets.{minutes-below, minutes-above, minutes-none}
 use Rattle.timestamp_text.proofs.offset.put_minutes.Statement.{statement}
 use Rattle.timestamp_text.proofs.offset.put_minutes.Tie as tie
 
@@ -41,37 +40,32 @@ negated-fits c = natural-fits w32 (negated c) (omega (arith, small (c .before)))
 
 sub-put-clock : tie.Need-sub-put-clock
 sub-put-clock c =
-    let t = c .before .before .before .before .before in
-    let f = fits (t .before) in
-    simp toZ-ofZ (negated-fits t)
+    let f = fits (c .before .before) in
+    simp toZ-ofZ (negated-fits (c .before))
 
 cast-put-clock : tie.Need-cast-put-clock
 cast-put-clock c =
-    let t = c .before .before .before .before .before in
+    let t = c .before in
     let f = fits (t .before) in
     let g = negated-fits t in
     simp toZ-ofZ (may-cast w32 (negated t) (omega (arith, small (t .before))))
 
 put-clock-requires : tie.Need-put-clock-requires
 put-clock-requires c κs =
-    let p = c .before .before .before in
-    let t = p .before .before in
+    let t = c .before in
     let f = fits (t .before) in
     let g = negated-fits t in
-    (omega (arith, p .put-byte .ensures .next), simp toZ-ofZ (omega (arith, to-unsigned (negated t), small (t .before))))
+    (omega arith, simp toZ-ofZ (omega (arith, to-unsigned (negated t), small (t .before))))
 
 returns : tie.Need-returns
 returns c =
-    let q = c .before .before in
-    let p = q .before .before .before .before in
+    let p = c .before .before in
     let t = p .before .before in
     let m = t .before in
     let f = fits m in
     let g = negated-fits t in
-    let e = p .put-byte .ensures in
-    let k = q .put-clock .ensures in
-    let l = simp (toZ-ofZ, to-unsigned (negated t)) at k in
-    rw (← m .minutes .ensures, minutes-below (read m) (west t)) (run-two e l (omega (arith, e .next, l .next, length-clock (natAbs (read m)) (small m))))
+    let e = p .put-clock .ensures in
+    rw (← m .minutes .ensures) (run-is (simp (toZ-ofZ, to-unsigned (negated t)) at e) (sym (minutes-below (read m) (west t))))
 
 -- ---- east of UTC
 
@@ -80,29 +74,25 @@ east c = let f = fits (c .before .before) in let h = c .if2 .taken in simp toZ-o
 
 cast-put-clock-2 : tie.Need-cast-put-clock-2
 cast-put-clock-2 c =
-    let t = c .before .before .before .before .before in
+    let t = c .before in
     let m = t .before .before in
     let f = fits m in
     simp toZ-ofZ (may-cast w32 (above-is (read m) (east t)) (omega (arith, small m)))
 
 put-clock-requires-2 : tie.Need-put-clock-requires-2
 put-clock-requires-2 c κs =
-    let p = c .before .before .before in
-    let m = p .before .before .before .before in
+    let m = c .before .before .before in
     let f = fits m in
-    (omega (arith, p .put-byte2 .ensures .next), simp toZ-ofZ (small m))
+    (omega arith, simp toZ-ofZ (small m))
 
 returns-2 : tie.Need-returns-2
 returns-2 c =
-    let q = c .before .before in
-    let p = q .before .before .before .before in
+    let p = c .before .before in
     let t = p .before .before in
     let m = t .before .before in
     let f = fits m in
-    let e = p .put-byte2 .ensures in
-    let k = q .put-clock2 .ensures in
-    let l = simp toZ-ofZ at k in
-    rw (← m .minutes .ensures, minutes-above (read m) (east t)) (run-two e l (omega (arith, e .next, l .next, length-clock (natAbs (read m)) (small m))))
+    let e = p .put-clock2 .ensures in
+    rw (← m .minutes .ensures) (run-is (simp toZ-ofZ at e) (sym (minutes-above (read m) (east t))))
 
 -- ---- neither
 
@@ -114,26 +104,14 @@ returns-3 c =
     let f = fits m in
     let h = n .before .if1 .left in
     let k = n .if2 .left in
-    rw (← m .minutes .ensures, minutes-none (read m) (simp toZ-ofZ at h) (simp toZ-ofZ at k)) (record { bytes = q .copy-in .ensures; next = refl })
+    rw (← m .minutes .ensures, minutes-none (read m) (simp toZ-ofZ at h) (simp toZ-ofZ at k))
+    (record { bytes = q .copy-in .ensures; next = refl })
 
 pub put-minutes-spec : {M : Type 1} → statement M
 put-minutes-spec =
     tie.close
     (tie.spec
     (λ c κs. search needs)
-    (λ c κs. search needs)
-    sub-put-clock
-    cast-put-clock
-    put-clock-requires
-    (λ c. search needs)
-    returns
-    (λ c κs. search needs)
-    cast-put-clock-2
-    put-clock-requires-2
-    (λ c. search needs)
-    returns-2
-    (λ c. search needs)
-    (λ c κs. search needs)
-    (λ c. search needs)
-    (λ c. search needs)
-    returns-3)
+    sub-put-clock cast-put-clock put-clock-requires (λ c. search needs) returns
+    cast-put-clock-2 put-clock-requires-2 (λ c. search needs) returns-2
+    (λ c. search needs) (λ c κs. search needs) (λ c. search needs) (λ c. search needs) returns-3)

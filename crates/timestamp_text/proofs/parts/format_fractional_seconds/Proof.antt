@@ -1,4 +1,4 @@
--- `part::format_fractional_seconds` meets its contract. Assumes nothing.
+-- `parts::format_fractional_seconds` meets its contract. Assumes nothing.
 use borrow.Author.Needs.{needs}
 use borrow.Author.Tests.{eq-eqb, ne-eqb}
 use mathlib.Core.Path.{_≡_}
@@ -12,13 +12,13 @@ use Rattle.places.proofs.Laws.{length-places}
 use Rattle.output.proofs.Runs.{run-none, run-two}
 use Rattle.text.proofs.Digits.{padded-digits}
 use Rattle.fraction.proofs.Scales.{scale-pos, units-lt}
-use Rattle.timestamp_text.specs.Length.{fractionLength}
-use Rattle.timestamp_text.proofs.part.format_fractional_seconds.Statement.{statement}
-use Rattle.timestamp_text.proofs.part.format_fractional_seconds.Tie as tie
+use Rattle.timestamp_text.specs.TextParts.{fractionLength}
+use Rattle.timestamp_text.proofs.parts.format_fractional_seconds.Statement.{statement}
+use Rattle.timestamp_text.proofs.parts.format_fractional_seconds.Tie as tie
 
 returns : tie.Need-returns
 unfolding fractionText
-returns c = rw (eq-eqb _ _ (c .if1 .taken)) (run-none (c .before .before .args .b .now) (c .before .before .args .at))
+returns c = rw (eq-eqb _ _ (c .if1 .taken)) (run-none (c .before .before .args .buf .now) (c .before .before .args .at))
 
 -- where there is a fraction, its point and its digits have room
 some : (c : tie.Else1) → let a = c .before .before .args in fractionLength (a .digits) ≡ 1 + a .digits

@@ -1,4 +1,4 @@
--- `formatting::format` meets its contract. Assumes nothing.
+-- `format` meets its contract. Assumes nothing.
 use borrow.Author.Needs.{needs}
 use mathlib.Core.Path.{_≡_, sym, ap, _∙_}
 use lib.ListN.{length}
@@ -9,10 +9,10 @@ use Rattle.ion.specs.Calls.Accepted.{Accepted}
 use Rattle.ion.specs.declared.Fields.{Fields}
 use Rattle.output.proofs.Stores.{has-room, refused-writing, written, passed-writing, stopped-writing}
 use Rattle.timestamp.proofs.Accepts.{check-gives}
-use Rattle.timestamp_text.specs.Length.{textLength}
+use Rattle.timestamp_text.specs.TextParts.{textLength}
 use Rattle.timestamp_text.proofs.Lengths.{length-text}
-use Rattle.timestamp_text.proofs.formatting.format.Statement.{statement}
-use Rattle.timestamp_text.proofs.formatting.format.Tie as tie
+use Rattle.timestamp_text.proofs.format.Statement.{statement}
+use Rattle.timestamp_text.proofs.format.Tie as tie
 
 returns : tie.Need-returns
 returns c = rw (← c .before .check-number .ensures) (stopped-writing _ _ _ _ (c .if1 .taken))
@@ -24,7 +24,9 @@ passed c = sym (c .before .check-number .ensures) ∙ c .if1 .left
 accepted : (c : tie.Else1) → Accepted (c .before .before .before .args .s)
 accepted c = check-gives (c .before .before .before .args .s) (passed c)
 
-answered : (c : tie.After-room-for) → let a = c .before .before .before .before .before .before .args in c .room-for .result ≡ wrote (a .buf .now) (a .at) (textOf (a .s))
+answered : (c : tie.After-room-for)
+    → let a = c .before .before .before .before .before .before .args in
+    c .room-for .result ≡ wrote (a .buf .now) (a .at) (textOf (a .s))
 unfolding textOf
 answered c =
     let u = c .before .before in
@@ -60,7 +62,8 @@ returns-3 c =
     let e = u .before in
     let a = e .before .before .before .args in
     let b = t .text-into .ensures .bytes in
-    passed-writing _ _ _ _ (passed e) (written (a .buf .now) (a .at) (textOf (a .s)) (answered r) (t .before .before .if2 .left) (rw (u .unpack .ensures) at b))
+    let w = written (a .buf .now) (a .at) (textOf (a .s)) (answered r) (t .before .before .if2 .left) (rw (u .unpack .ensures) at b) in
+    passed-writing _ _ _ _ (passed e) w
 
 pub format-spec : {M : Type 1} → statement M
 format-spec =

@@ -1,12 +1,12 @@
--- `part::put_marked` meets its contract. Assumes nothing.
+-- `parts::put_marked` meets its contract. Assumes nothing.
 use borrow.Author.Needs.{needs}
 use native.Mathlib.Omega.{arith}
 use lib.Dec.{lit≤}
 use Rattle.ion.specs.Text.Format.{marked}
 use Rattle.output.proofs.Runs.{run-two}
 use Rattle.text.proofs.Digits.{length-exact}
-use Rattle.timestamp_text.proofs.part.put_marked.Statement.{statement}
-use Rattle.timestamp_text.proofs.part.put_marked.Tie as tie
+use Rattle.timestamp_text.proofs.parts.put_marked.Statement.{statement}
+use Rattle.timestamp_text.proofs.parts.put_marked.Tie as tie
 
 returns : tie.Need-returns
 unfolding marked
