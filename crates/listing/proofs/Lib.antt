@@ -1,4 +1,5 @@
-pub mod Lines
-pub mod Numbers
-pub mod Puts
-pub mod Listed
+-- What the proofs of several functions use.
+mod Lines
+mod Numbers
+mod Puts
+mod Listed

@@ -1,15 +1,14 @@
 -- The lines of an input, one value after another. Assumes nothing.
-use mathlib.Core.Path.{_≡_, refl, sym, ap, ap₂, _∙_}
+use mathlib.Core.Path.{_≡_, refl, sym, ap, _∙_}
 use mathlib.Core.Bool.{Bool, true, false}
-use mathlib.Core.List.{List, [], _∷_, _++_, append-assoc, append-nil}
-use Prim.Native.Nat.{ℕ, zero, suc, _+_, _-_, _*_, _≤_, _<_}
+use mathlib.Core.List.{List, [], _∷_, _++_}
+use Prim.Native.Nat.{ℕ, zero, suc, _≤_, _<_}
 use native.Mathlib.Omega.{arith}
 use borrow.Author.Tests.{le-ltb, lt-ltb, eq-eqb, ne-eqb, eqb-true, eqb-false}
-use lib.Dec.{eqb, ltb}
-use lib.ListN.{length, drop, length-append, length-drop}
+use lib.Dec.{eqb}
+use lib.ListN.{length, drop, length-drop}
 use Rattle.ion.specs.Calls.Refusal.{longInput}
 use Rattle.ion.specs.Text.Format.{textOf}
-use Rattle.ion.specs.Value.Encode.{bodyOf, header, valueOf}
 use Rattle.ion.specs.Value.ReadValue.{readValue}
 use Rattle.ion.specs.Calls.Stamps.{lineOf, stopLine, linesOf, outputOf}
 use Rattle.value_reader.proofs.Readings.{read-is}
@@ -28,13 +27,13 @@ unfolding linesOf
 lines-none zero = refl
 lines-none (suc n) = refl
 
-pub lines-more : (n : ℕ) (s : List ℕ) → 0 < length s → readValue s .number ≡ 0
+lines-more : (n : ℕ) (s : List ℕ) → 0 < length s → readValue s .number ≡ 0
     → linesOf (suc n) s ≡ lineOf (textOf (readValue s .stamp)) ++ linesOf n (drop (readValue s .taken) s)
 unfolding linesOf
 lines-more n [] h e = absurd (omega arith)
 lines-more n (b ∷ s) h e = rw (eq-eqb (readValue (b ∷ s) .number) 0 e)
 
-pub lines-stop : (n : ℕ) (s : List ℕ) → 0 < length s → (readValue s .number ≡ 0 → ⊥) → linesOf (suc n) s ≡ stopLine (readValue s .number)
+lines-stop : (n : ℕ) (s : List ℕ) → 0 < length s → (readValue s .number ≡ 0 → ⊥) → linesOf (suc n) s ≡ stopLine (readValue s .number)
 unfolding linesOf
 lines-stop n [] h e = absurd (omega arith)
 lines-stop n (b ∷ s) h e = rw (ne-eqb (readValue (b ∷ s) .number) 0 e)
@@ -49,7 +48,8 @@ lines-fuel zero n s h k = no-bytes zero s h ∙ sym (no-bytes n s h)
 lines-fuel (suc m) zero s h k = no-bytes (suc m) s k ∙ sym (no-bytes zero s k)
 lines-fuel (suc m) (suc n) s h k = go (λ t. lines-fuel m n t) s h k
   where
-    step : ((t : List ℕ) → length t ≤ m → length t ≤ n → linesOf m t ≡ linesOf n t) → (s : List ℕ) → 0 < length s → length s ≤ suc m → length s ≤ suc n
+    step : ((t : List ℕ) → length t ≤ m → length t ≤ n → linesOf m t ≡ linesOf n t)
+        → (s : List ℕ) → 0 < length s → length s ≤ suc m → length s ≤ suc n
         → (t : Bool) → eqb (readValue s .number) 0 ≡ t → linesOf (suc m) s ≡ linesOf (suc n) s
     step ih s p h k true e =
         let z = eqb-true (readValue s .number) 0 e in
@@ -62,8 +62,8 @@ lines-fuel (suc m) (suc n) s h k = go (λ t. lines-fuel m n t) s h k
         let z = eqb-false (readValue s .number) 0 e in
         lines-stop m s p z ∙ sym (lines-stop n s p z)
 
-    go : ((t : List ℕ) → length t ≤ m → length t ≤ n → linesOf m t ≡ linesOf n t) → (s : List ℕ) → length s ≤ suc m → length s ≤ suc n
-        → linesOf (suc m) s ≡ linesOf (suc n) s
+    go : ((t : List ℕ) → length t ≤ m → length t ≤ n → linesOf m t ≡ linesOf n t)
+        → (s : List ℕ) → length s ≤ suc m → length s ≤ suc n → linesOf (suc m) s ≡ linesOf (suc n) s
     go ih [] h k = lines-none (suc m) ∙ sym (lines-none (suc n))
     go ih (b ∷ s) h k = step ih (b ∷ s) (omega arith) h k _ refl
 

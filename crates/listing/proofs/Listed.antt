@@ -1,7 +1,7 @@
 -- What a listing has put into a buffer after some of the input. Assumes nothing.
 use mathlib.Core.Path.{_≡_, refl, sym, ap, ap₂, _∙_}
 use mathlib.Core.List.{List, [], _++_, append-assoc, append-nil}
-use Prim.Native.Nat.{ℕ, _+_, _-_, _*_, _≤_, _<_}
+use Prim.Native.Nat.{ℕ, _+_, _*_, _≤_, _<_}
 use native.Mathlib.Nat.{zero-add}
 use native.Mathlib.Omega.{arith}
 use lib.ListN.{length, take, drop, length-append, length-drop, drop-of-length-le, take-append-drop}
@@ -21,11 +21,11 @@ pub record Listed (input d e : List ℕ) (at end : ℕ) : Type 0 where
   pub within : at ≤ length input
   pub few : end ≤ 15 * at
   pub size : length e ≡ length d
-  pub listed : take end e ++ lines (drop at input) ≡ lines input
+  pub lines-so-far : take end e ++ lines (drop at input) ≡ lines input
   pub rest : drop end e ≡ drop end d
 
 pub start : (input d : List ℕ) → Listed input d d 0 0
-start input d = record { within = omega arith; few = omega arith; size = refl; listed = refl; rest = refl }
+start input d = record { within = omega arith; few = omega arith; size = refl; lines-so-far = refl; rest = refl }
 
 module _ {input d e : List ℕ} {at end : ℕ} (p : Listed input d e at end) (room : 15 * length input + 8 ≤ length d) where
   inside : end ≤ length e
@@ -86,20 +86,20 @@ module _ {input d e : List ℕ} {at end : ℕ} (p : Listed input d e at end) (ro
             within = omega (arith, taken-within, length-drop at input);
             few = omega (arith, p .few, k);
             size = size-after r fits;
-            listed =
+            lines-so-far =
                 ap₂ (λ (x y : List ℕ). x ++ lines y) (front r fits) (sym (drop-drop t at input))
                 ∙ append-assoc (take end e) l (lines (drop t (drop at input)))
                 ∙ ap (λ (x : List ℕ). take end e ++ x) (sym (next-line (drop at input) left ok))
-                ∙ p .listed;
+                ∙ p .lines-so-far;
             rest = rest-after r fits;
           }
 
     -- the last line
-    pub stop : (readValue (drop at input) .number ≡ 0 → ⊥) → {g : List ℕ} {n : ℕ} → Run e end (stopLine (readValue (drop at input) .number)) g n → n ≤ length d
-        → Run d 0 (lines input) g n
+    pub stop : (readValue (drop at input) .number ≡ 0 → ⊥)
+        → {g : List ℕ} {n : ℕ} → Run e end (stopLine (readValue (drop at input) .number)) g n → n ≤ length d → Run d 0 (lines input) g n
     stop z {g} {n} r h =
         whole (lines input)
-        (front r h ∙ ap (λ (x : List ℕ). take end e ++ x) (sym (last-line (drop at input) left z)) ∙ p .listed)
+        (front r h ∙ ap (λ (x : List ℕ). take end e ++ x) (sym (last-line (drop at input) left z)) ∙ p .lines-so-far)
         (rest-after r h) (omega (arith, size-after r h))
 
   -- the end of the input
@@ -107,5 +107,5 @@ module _ {input d e : List ℕ} {at end : ℕ} (p : Listed input d e at end) (ro
   finish h =
       let n : drop at input ≡ [] = drop-of-length-le input h in
       whole (lines input)
-      (sym (append-nil (take end e)) ∙ ap (λ (x : List ℕ). take end e ++ x) (sym (ap lines n ∙ lines-none 0)) ∙ p .listed)
+      (sym (append-nil (take end e)) ∙ ap (λ (x : List ℕ). take end e ++ x) (sym (ap lines n ∙ lines-none 0)) ∙ p .lines-so-far)
       (p .rest) inside

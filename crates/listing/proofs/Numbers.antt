@@ -5,9 +5,8 @@ use Prim.Native.Nat.{ℕ, _+_, _-_, _≤_}
 use native.Mathlib.Omega.{arith}
 use lib.Dec.{eqb, ltb}
 use lib.ListN.{length, take}
-use Rattle.ion.specs.Calls.Refusal.{inputEnds, firstByteRefused, bodyRefused}
 use Rattle.ion.specs.Value.Decode.{Decoded, found, nothing, decodeBody, pairFrom}
-use Rattle.ion.specs.Value.ReadValue.{refusedReading, acceptedReading, isBodyOf, takenAs, readBody, readAfter, readLength, readValue}
+use Rattle.ion.specs.Value.ReadValue.{isBodyOf, takenAs, readBody, readAfter, readLength, readValue}
 use Rattle.ion.specs.declared.Body.{Body}
 use Rattle.ion.specs.declared.Read.{Read}
 
@@ -20,21 +19,20 @@ unfolding readBody
 body-number n b = go (decodeBody b)
   where
     go : (d : Decoded Body) → takenAs n b d .number ≤ 15
-    go (found x) = either (isBodyOf b (pairFrom x)) (acceptedReading (pairFrom x) n) (refusedReading bodyRefused) (omega arith) (omega arith)
+    go (found x) = either (isBodyOf b (pairFrom x)) _ _ (omega arith) (omega arith)
     go nothing = omega arith
 
 after-number : (k n : ℕ) (s : List ℕ) → readAfter k n s .number ≤ 15
 unfolding readAfter
-after-number k n s = either (ltb (length s) n) (refusedReading inputEnds) (readBody (k + n) (take n s)) (omega arith) (body-number (k + n) (take n s))
+after-number k n s = either (ltb (length s) n) _ _ (omega arith) (body-number (k + n) (take n s))
 
 length-number : (s : List ℕ) → readLength s .number ≤ 15
 unfolding readLength
 length-number [] = omega arith
-length-number (c ∷ s) = either (ltb c 0x8e || ltb 0x92 c) (refusedReading bodyRefused) (readAfter 2 (c - 0x80) s) (omega arith) (after-number 2 (c - 0x80) s)
+length-number (c ∷ s) = either (ltb c 0x8e || ltb 0x92 c) _ _ (omega arith) (after-number 2 (c - 0x80) s)
 
 pub read-number : (s : List ℕ) → readValue s .number ≤ 15
 unfolding readValue
 read-number [] = omega arith
 read-number (d ∷ s) =
-    either (ltb d 0x60 || ltb 0x6e d) (refusedReading firstByteRefused) (cond (eqb d 0x6e) (readLength s) (readAfter 1 (d - 0x60) s)) (omega arith)
-    (either (eqb d 0x6e) (readLength s) (readAfter 1 (d - 0x60) s) (length-number s) (after-number 1 (d - 0x60) s))
+    either (ltb d 0x60 || ltb 0x6e d) _ _ (omega arith) (either (eqb d 0x6e) _ _ (length-number s) (after-number 1 (d - 0x60) s))

@@ -1,19 +1,45 @@
 // The lines that the program `stamps` prints for an input.
-mod line;
-
+use ion::Timestamp;
 use ion::refusal;
-ghost use Prim.Native.Nat.{_+_, _*_, _≤_};
+use text::text_formatter;
+ghost use Prim.Native.Nat.{_+_, _*_, _≤_, _<_};
 ghost use lib.ListN.{length};
+ghost use Rattle.ion.specs.Calls.Accepted.{Accepted};
 ghost use Rattle.ion.specs.Calls.Output.{Run};
-ghost use Rattle.ion.specs.Calls.Stamps.{outputOf};
+ghost use Rattle.ion.specs.Calls.Stamps.{lineOf, stopLine, outputOf};
+ghost use Rattle.ion.specs.Text.Format.{textOf};
 
-// Lists the values of `input` from the start of `out` on; how many bytes that takes.
-pub fn list(input: &[u8], out: &mut [u8]) -> usize
-    requires { ⌜ 15 * length (now input) + 8 ≤ length (now out) ⌝ }
-    ensures { λ r. ⌜ (Run (now (out .entry)) 0 (outputOf (now (input .entry))) (now (out .exit)) r) × (r ≤ length (now (out .entry))) ⌝ }
+// Puts a text and a line feed from index `at` on; the index after them.
+fn put_text(buf: &mut [u8], at: usize, s: Timestamp) -> usize
+    requires { ⌜ (at + 45 ≤ length (now buf)) × Accepted s ⌝ }
+    ensures { λ r. ⌜ Run (now (buf .entry)) at (lineOf (textOf s)) (now (buf .exit)) r ⌝ }
+    ensures { λ r. ⌜ r ≤ at + 45 ⌝ }
+{
+    let end = timestamp_text::text_into(buf, at, packed::unpack(s.packed_fields), s.attoseconds);
+    output::copy_in(buf, end, b"\n");
+    end + 1
+}
+
+// Puts `stop`, a space, the number and a line feed from index `at` on; the index after them.
+fn put_stop(buf: &mut [u8], at: usize, number: u32) -> usize
+    requires { ⌜ (at + 8 ≤ length (now buf)) × (number < 100) ⌝ }
+    ensures { λ r. ⌜ Run (now (buf .entry)) at (stopLine number) (now (buf .exit)) r ⌝ }
+    ensures { λ r. ⌜ r ≤ at + 8 ⌝ }
+{
+    output::copy_in(buf, at, b"stop ");
+    let end = text_formatter::put_padded(buf, at + 5, number as u64, 1);
+    output::copy_in(buf, end, b"\n");
+    end + 1
+}
+
+// Lists the values of `input` from the start of `buf` on; how many bytes that takes.
+pub fn list(input: &[u8], buf: &mut [u8]) -> usize
+    requires { ⌜ 15 * length (now input) + 8 ≤ length (now buf) ⌝ }
+    ensures { λ r. ⌜ Run (now (buf .entry)) 0 (outputOf (now (input .entry))) (now (buf .exit)) r ⌝ }
+    ensures { λ r. ⌜ r ≤ length (now (buf .entry)) ⌝ }
 {
     if 65_536 < input.len() {
-        return line::put_stop(out, 0, refusal::LONG_INPUT);
+        return put_stop(buf, 0, refusal::LONG_INPUT);
     }
     let mut at = 0;
     let mut end = 0;
@@ -21,9 +47,9 @@ pub fn list(input: &[u8], out: &mut [u8]) -> usize
         let r = value_reader::read_value(&input[at..]);
         let number = r.number;
         if number != 0 {
-            return line::put_stop(out, end, number);
+            return put_stop(buf, end, number);
         }
-        end = line::put_text(out, end, r.stamp);
+        end = put_text(buf, end, r.stamp);
         at += r.taken;
     }
     end

@@ -1,15 +1,11 @@
--- `listing::line::put_text` meets its contract. Assumes nothing.
+-- `listing::put_text` meets its contract. Assumes nothing.
 use borrow.Author.Needs.{needs}
-use mathlib.Core.Path.{sym, ap, _∙_}
 use Prim.Native.Nat.{_+_, _≤_}
 use native.Mathlib.Omega.{arith}
 use Rattle.timestamp_text.proofs.Lengths.{longest}
 use Rattle.listing.proofs.Puts.{line-end, text-valid, text-run}
-use Rattle.listing.proofs.line.put_text.Statement.{statement}
-use Rattle.listing.proofs.line.put_text.Tie as tie
-
-unpack-requires : tie.Need-unpack-requires
-unpack-requires c κs = search needs
+use Rattle.listing.proofs.put_text.Statement.{statement}
+use Rattle.listing.proofs.put_text.Tie as tie
 
 text-into-requires : tie.Need-text-into-requires
 text-into-requires c κs =
@@ -17,15 +13,13 @@ text-into-requires c κs =
     let v = text-valid (b .args .s) (c .unpack .ensures) (b .pre .1) in
     (omega (arith, longest (c .unpack .result) (b .args .s .attoseconds) v, b .pre .0), v)
 
-slice-aggregate-copy-in : tie.Need-slice-aggregate-copy-in
-slice-aggregate-copy-in c = search needs
-
 -- where the text ends
 text-end : (c : tie.After-text-into) → c .text-into .result ≤ c .before .before .before .before .args .at + 44
 text-end c =
     let b = c .before .before .before .before in
     let u = c .before .unpack in
-    omega (arith, c .text-into .ensures .next, longest (u .result) (b .args .s .attoseconds) (text-valid (b .args .s) (u .ensures) (b .pre .1)))
+    let v = text-valid (b .args .s) (u .ensures) (b .pre .1) in
+    omega (arith, c .text-into .ensures .next, longest (u .result) (b .args .s .attoseconds) v)
 
 copy-in-requires : tie.Need-copy-in-requires
 copy-in-requires c κs =
@@ -38,9 +32,6 @@ add-result c =
     let b = t .before .before .before .before in
     omega (arith, text-end t, b .pre .0, b .good .0)
 
-same-length : tie.Need-same-length
-same-length c = search needs
-
 returns : tie.Need-returns
 returns c =
     let t = c .before .before .before .before .before .before .before in
@@ -52,10 +43,6 @@ pub put-text-spec : {M : Type 1} → statement M
 put-text-spec =
     tie.close
     (tie.spec
-    unpack-requires
-    text-into-requires
-    slice-aggregate-copy-in
-    copy-in-requires
-    add-result
-    same-length
-    returns)
+    (λ c κs. search needs) text-into-requires
+    (λ c. search needs) copy-in-requires
+    add-result (λ c. search needs) returns)
