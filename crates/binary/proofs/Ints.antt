@@ -2,19 +2,18 @@
 -- read. Assumes nothing.
 use mathlib.Core.Path.{_≡_, refl, sym, ap, _∙_}
 use mathlib.Core.Bool.{Bool, true, false, cond, _&&_, and-false}
-use mathlib.Core.List.{List, _∷_}
-use Prim.Native.Nat.{ℕ, suc, _+_, _-_, _*_, _/_, _^_, _≤_, _<_}
-use native.Mathlib.Nat.{pow-succ', mul-assoc, le-of-eq, le-trans, lt-of-le-of-lt, lt-of-mul-lt-mul-right, mul-le-mul-left, mul-le-mul-right}
+use mathlib.Core.List.{List}
+use Prim.Native.Nat.{ℕ, suc, _-_, _*_, _/_, _^_, _≤_, _<_}
 use native.Mathlib.Decide.{decLt}
 use native.Mathlib.Omega.{arith}
 use borrow.Author.Tests.{lt-ltb, le-ltb, ltb-true, eq-eqb, ne-eqb, eqb-true}
 use lib.Count.{leadingZeros}
 use lib.Dec.{eqb, ltb, lit<}
 use lib.ListN.{length}
-use Rattle.places.specs.Places.{plain, places, placeCount, valueFrom}
+use Rattle.places.specs.Places.{plain, places, placeCount}
 use Rattle.places.proofs.Laws.{length-places, count-zero, count-next, count-holds, count-least, value-places}
 use Rattle.places.proofs.Below.{Below}
-use Rattle.places.proofs.Values.{value-is, value-least, value-below}
+use Rattle.places.proofs.Values.{value-is}
 use Rattle.places.proofs.Bits.{double-zeros}
 use Rattle.ion.specs.Numbers.Int.{intCount, int, bigEndian, readInt}
 use Rattle.ion.specs.declared.IntRead.the-variants.{Value, Bad}
@@ -29,7 +28,7 @@ bytes-int m n e = ap (λ (k : ℕ). places 256 plain k m) e
 
 -- ---- the shortest form: its bytes hold the number and a clear bit in front, and no fewer do
 
-pub int-held : (m : ℕ) → 2 * m < 256 ^ intCount m
+int-held : (m : ℕ) → 2 * m < 256 ^ intCount m
 unfolding intCount
 int-held m = count-holds 256 (lit< tt) (2 * m)
 
@@ -40,38 +39,9 @@ int-least n m h = count-least 256 (lit< tt) n (2 * m) h
 pub int-most : (m : ℕ) → m < 2 ^ 64 → intCount m ≤ 9
 int-most m h = int-least 9 m (omega arith)
 
-pub value-int : (m : ℕ) → bigEndian (int m) ≡ m
+value-int : (m : ℕ) → bigEndian (int m) ≡ m
 unfolding int
 value-int m = value-places 256 (lit< tt) plain plain (λ d h. refl) (intCount m) m (omega (arith, int-held m))
-
-pub int-injective : (m n : ℕ) → int m ≡ int n → m ≡ n
-int-injective m n e = sym (value-int m) ∙ ap bigEndian e ∙ value-int n
-
--- ---- the first bit
-
--- the first bit of a form is clear
-pub first-clear : (m b : ℕ) (r : List ℕ) → int m ≡ b ∷ r → b < 128
-unfolding valueFrom
-first-clear m b r e =
-    let p = 256 ^ length r in
-    let v : valueFrom 256 plain (0 * 256 + b) r ≡ m = sym (ap bigEndian e) ∙ value-int m in
-    let n : intCount m ≡ suc (length r) = sym (length-int m) ∙ ap length e in
-    let h : 2 * m < 256 * p = rw (n, pow-succ' 256 (length r)) at (int-held m) in
-    let l : b * p ≤ m = omega (arith, value-least 256 (0 * 256 + b) r) in
-    let k : 2 * b * p < 256 * p = lt-of-le-of-lt (le-trans (le-of-eq (mul-assoc 2 b p)) (mul-le-mul-left 2 l)) h in
-    let g : 2 * b < 256 = lt-of-mul-lt-mul-right p k in
-    omega arith
-
--- and no shorter bytes whose first bit is clear make the number
-pub int-shortest : (b : ℕ) (r : List ℕ) → b < 128 → Below 256 (b ∷ r) → length (int (bigEndian (b ∷ r))) ≤ length (b ∷ r)
-unfolding valueFrom
-int-shortest b r h l =
-    let p = 256 ^ length r in
-    let m = bigEndian (b ∷ r) in
-    let u : valueFrom 256 plain (0 * 256 + b) r < suc (0 * 256 + b) * p = value-below 256 (0 * 256 + b) r (λ i. l (suc i)) in
-    let k : suc (0 * 256 + b) * p ≤ 128 * p = mul-le-mul-right p (omega arith) in
-    let g = int-least (suc (length r)) m (rw (pow-succ' 256 (length r)) (omega arith)) in
-    omega (arith, length-int m)
 
 -- ---- the form is read back, and whatever is read is the form of what is found
 

@@ -11,27 +11,26 @@ use Rattle.places.proofs.Laws.{store-front}
 use Rattle.ion.specs.Calls.Output.{over}
 use Rattle.ion.specs.Numbers.VarUInt.{groups}
 use Rattle.ion.specs.Numbers.VarInt.{signedCount, signed}
-use Rattle.output.proofs.Stores.{over-is}
+use Rattle.output.proofs.Stores.{over-is, Storing}
 use Rattle.binary.proofs.Groups.{groups-append, length-groups}
 use Rattle.binary.proofs.VarInts.{sign-free}
 
--- the buffer with the last group alone
-abbrev pub lastStored : List ℕ → ℕ → ℕ → ℕ → List ℕ
-lastStored d at n v = set d (at + n - 1) (128 + v % 128)
-
--- the end of the loop, which began with that buffer
-pub groups-stored : (d l : List ℕ) (at n v i q : ℕ) → 1 ≤ n → at + n ≤ length d → i ≡ at → take at l ≡ take at (lastStored d at n v)
-    → placesOn 128 plain (i - at) q (drop i l) ≡ placesOn 128 plain (at + n - 1 - at) (v / 128) (drop (at + n - 1) (lastStored d at n v))
-    → l ≡ over d at (groups n v)
+-- the end of the loop, which began with the last group stored and the others left
+pub groups-stored : (d l : List ℕ) (at n v i q : ℕ) → 1 ≤ n → at + n ≤ length d → i ≤ at
+    → Storing 128 plain (set d (at + n - 1) (128 + v % 128)) at (n - 1) (v / 128) l i q → l ≡ over d at (groups n v)
 unfolding placesOn
-groups-stored d l at zero v i q h k e et el = absurd (omega arith)
-groups-stored d l at (suc n) v i q h k e et el =
+groups-stored d l at zero v i q h k e s = absurd (omega arith)
+groups-stored d l at (suc n) v i q h k e s =
     let x = 128 + v % 128 in
-    let z : at - at ≡ 0 = omega arith in
-    let y : at + suc n - 1 - at ≡ n = omega arith in
-    let t : drop at l ≡ placesOn 128 plain n (v / 128) (x ∷ drop (at + suc n) d) = rw (e, z, y, store-front d (at + suc n) x (omega arith) k) at el in
-    over-is d l at (groups (suc n) v) (et ∙ take-set-le at d (at + suc n - 1) x (omega arith))
-    (t ∙ sym (groups-append n v (drop (at + suc n) d)) ∙ ap (λ (j : ℕ). groups (suc n) v ++ drop (at + j) d) (sym (length-groups (suc n) v)))
+    let r = drop (at + suc n) d in
+    let u : at ≡ i = omega (arith, s .from) in
+    let z : i - at ≡ 0 = omega arith in
+    let y : suc n - 1 ≡ n = omega arith in
+    let w : at + (suc n - 1) ≡ at + suc n - 1 = omega arith in
+    let t : drop at l ≡ placesOn 128 plain n (v / 128) (x ∷ r) =
+    ap (λ (j : ℕ). drop j l) u ∙ rw (z, w, store-front d (at + suc n) x (omega arith) k, y) at (s .left) in
+    over-is d l at (groups (suc n) v) (s .front ∙ take-set-le at d (at + suc n - 1) x (omega arith))
+    (t ∙ sym (groups-append n v r) ∙ ap (λ (j : ℕ). groups (suc n) v ++ drop (at + j) d) (sym (length-groups (suc n) v)))
 
 -- a sign stored into the first of the groups that were put
 pub sign-stored : (d x : List ℕ) (at m : ℕ) → at ≤ length d → x ≡ over d at (groups (signedCount m) m)

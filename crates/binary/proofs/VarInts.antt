@@ -1,5 +1,5 @@
--- VarInt: for both signs, negative zero among them, the shortest form is read back, whatever is read is a shortest form, and none is the
--- beginning of another. Assumes nothing.
+-- VarInt: for both signs, negative zero among them, the shortest form is read back, and whatever is read is a shortest form.
+-- Assumes nothing.
 use mathlib.Core.Path.{_≡_, refl, sym, ap, ap₂, _∙_}
 use mathlib.Core.Bool.{Bool, true, false, cond}
 use mathlib.Core.List.{List, [], _∷_, _++_}
@@ -14,7 +14,6 @@ use mir.Syntax.{w64}
 use mir.Val.{SFits, ofZ, toZ}
 use mir.Facts.{toZ-ofZ}
 use lib.ListN.{length, drop}
-use lib.Seq.{drop-append-seam}
 use Rattle.places.specs.Places.{placesOn}
 use Rattle.places.proofs.Laws.{held, place-monotone}
 use Rattle.places.proofs.Below.{Below, below-cons}
@@ -29,7 +28,7 @@ use Rattle.binary.proofs.VarUInts.{count-shortest, count-some}
 
 -- ---- how many bytes a magnitude and its sign have: they hold both, and no fewer do
 
-pub signed-held : (m : ℕ) → 2 * m < 128 ^ signedCount m
+signed-held : (m : ℕ) → 2 * m < 128 ^ signedCount m
 unfolding signedCount
 signed-held m = held 128 (lit< tt) (2 * m)
 
@@ -61,7 +60,7 @@ pub record SignFree (s : List ℕ) : Type 0 where
   pub rest : List ℕ
   pub is : s ≡ byte ∷ rest
   pub below : byte < 192
-  pub free : byte % 128 < 64
+  free : byte % 128 < 64
 
 free-in : (n m : ℕ) → 2 * m < 128 ^ suc n → SignFree (groups (suc n) m)
 free-in zero m h = record { byte = 128 + m % 128; rest = []; is = groups-one m; below = omega arith; free = omega arith }
@@ -129,16 +128,6 @@ unfolding varint
 handed-on {z} {g} {m} f e =
     let h : (g ≡ isNegative z) × (m ≡ natAbs z) = simp toZ-ofZ at e in
     (h .1, ap₂ signed (h .0) (h .1))
-
--- so none is the beginning of another
-pub signed-prefix-free : (g h : Bool) (x y : ℕ) (r s : List ℕ) → signed g x ++ r ≡ signed h y ++ s → (g ≡ h) × (x ≡ y) × (r ≡ s)
-signed-prefix-free g h x y r s e =
-    let a = read-signed (x + y) g x r (omega arith) in
-    let b = read-signed (x + y) h y s (omega arith) in
-    let sign : g ≡ h = cc in
-    let same : x ≡ y = cc in
-    let d : drop (length (signed g x)) (signed g x ++ r) ≡ drop (length (signed h y)) (signed h y ++ s) = cc in
-    (sign, same, sym (drop-append-seam (signed g x) r) ∙ d ∙ drop-append-seam (signed h y) s)
 
 -- ---- and whatever is read is the shortest form of what is found
 

@@ -1,5 +1,4 @@
--- VarUInt: the shortest form is the shortest and is read back, whatever is read is a shortest form, and none is the beginning of another.
--- Assumes nothing.
+-- VarUInt: the shortest form is the shortest and is read back, and whatever is read is a shortest form. Assumes nothing.
 use mathlib.Core.Path.{_≡_, refl, sym, ap, _∙_}
 use mathlib.Core.Bool.{Bool, true, false, cond}
 use mathlib.Core.List.{List, [], _∷_, _++_}
@@ -11,7 +10,6 @@ use borrow.Author.Tests.{lt-ltb, le-ltb, ne-eqb, ltb-false}
 use lib.Count.{leadingZeros}
 use lib.Dec.{eqb, ltb, lit<}
 use lib.ListN.{length, drop, length-append}
-use lib.Seq.{drop-append-seam}
 use Rattle.places.specs.Places.{placesOn}
 use Rattle.places.proofs.Laws.{held, fewest, place-some, place-monotone, place-is}
 use Rattle.places.proofs.Below.{Below}
@@ -101,15 +99,6 @@ read-varuint l m r h =
     let k = held 128 (lit< tt) m in
     rw (padded n m r (count-some m) k, le-ltb n n (omega arith))
     (scan-groups l (groupCount l) n m r (count-some m) (place-monotone 128 (lit< tt) m l h) k ∙ rw (le-ltb l m h))
-
--- so none is the beginning of another
-pub prefix-free : (x y : ℕ) (r s : List ℕ) → varuint x ++ r ≡ varuint y ++ s → (x ≡ y) × (r ≡ s)
-prefix-free x y r s e =
-    let a = read-varuint (x + y) x r (omega arith) in
-    let b = read-varuint (x + y) y s (omega arith) in
-    let same : x ≡ y = cc in
-    let d : drop (length (varuint x)) (varuint x ++ r) ≡ drop (length (varuint y)) (varuint y ++ s) = cc in
-    (same, sym (drop-append-seam (varuint x) r) ∙ d ∙ drop-append-seam (varuint y) s)
 
 -- ---- and whatever is read is the shortest form of what is found
 

@@ -1,16 +1,16 @@
 -- Bytes put into a buffer, one run after another, and stores from the front and from the back. Assumes nothing.
 use mathlib.Core.Path.{_≡_, refl, sym, ap, ap₂, _∙_}
 use mathlib.Core.List.{List, [], _++_, append-assoc}
-use Prim.Native.Nat.{ℕ, _+_, _-_, _≤_, _<_}
+use Prim.Native.Nat.{ℕ, _+_, _-_, _/_, _%_, _≤_, _<_}
 use native.Mathlib.Numerals.{add-one}
 use native.Mathlib.Omega.{arith}
 use native.Mathlib.Decide.{decLe}
 use borrow.Author.Tests.{le-leb, lt-leb, ne-eqb}
-use lib.ListN.{length, take, drop, set, getD, length-append, length-drop, take-append-drop}
-use lib.Seq.{take-at, drop-at, drop-drop, length-take-le, paste, paste-suc, take-length}
+use lib.ListN.{length, take, drop, set, getD, length-append, length-drop, length-set, take-append-drop}
+use lib.Seq.{take-at, drop-at, drop-drop, length-take-le, take-set-le, paste, paste-suc, take-length}
 use Rattle.places.specs.Places.{placesOn, places}
-use Rattle.places.proofs.Laws.{places-append, length-places}
-use Rattle.ion.specs.Calls.Output.{over, put, roomFor, wrote, putAfter, wroteAfter, refusedWriting}
+use Rattle.places.proofs.Laws.{places-append, length-places, place-stored}
+use Rattle.ion.specs.Calls.Output.{over, put, roomFor, wrote, putAfter, wroteAfter, refusedWriting, Run}
 use Rattle.ion.specs.Calls.Refusal.{shortBuffer}
 use Rattle.ion.specs.declared.Written.{Written}
 
@@ -132,6 +132,55 @@ unfolding placesOn places
 places-stored b f d l at n v i q e et el =
     let z : at - at ≡ 0 = omega arith in
     over-is d l at (places b f n v) et
-    (rw (e, z) at el
-    ∙ sym (places-append b f n v [] (drop (at + n) d))
-    ∙ ap (λ (m : ℕ). places b f n v ++ drop (at + m) d) (sym (length-places b f n v)))
+    (rw (e, z) at el ∙ sym (places-append b f n v [] (drop (at + n) d)) ∙ ap (λ (m : ℕ). places b f n v ++ drop (at + m) d) (sym (length-places b f n v)))
+
+-- the loop part way: the places of q in front of index i, with what l has from there on, are the n places of v with what d has after them
+pub record Storing (b : ℕ) (f : ℕ → ℕ) (d : List ℕ) (at n v : ℕ) (l : List ℕ) (i q : ℕ) : Type 0 where
+  pub from : at ≤ i
+  pub to : i ≤ at + n
+  pub size : length l ≡ length d
+  pub front : take at l ≡ take at d
+  pub left : placesOn b f (i - at) q (drop i l) ≡ placesOn b f n v (drop (at + n) d)
+
+pub storing-none : (b : ℕ) (f : ℕ → ℕ) (d : List ℕ) (at n v i : ℕ) → i ≡ at + n → Storing b f d at n v d i v
+storing-none b f d at n v i e =
+    let k : at + n - at ≡ n = omega arith in
+    record { from = omega arith; to = omega arith; size = refl; front = refl; left = rw (e, k) }
+
+module _ {b : ℕ} {f : ℕ → ℕ} {d : List ℕ} {at n v : ℕ} {l : List ℕ} {i q : ℕ} (s : Storing b f d at n v l i q) where
+  pub storing-next : at < i → at + n ≤ length d → Storing b f d at n v (set l (i - 1) (f (q % b))) (i - 1) (q / b)
+  storing-next h k =
+      let x = f (q % b) in
+      record {
+        from = omega arith;
+        to = omega (arith, s .to);
+        size = length-set l (i - 1) x ∙ s .size;
+        front = take-set-le at l (i - 1) x (omega arith) ∙ s .front;
+        left = place-stored b f l at i q h (omega (arith, s .to, s .size)) ∙ s .left;
+      }
+
+  pub storing-all : i ≤ at → l ≡ over d at (places b f n v)
+  storing-all h = places-stored b f d l at n v i q (omega (arith, s .from)) (s .front) (s .left)
+
+-- ---- a writer of the bytes s that asks for room for n bytes, is answered w, and puts the bytes t where there is room
+
+pub record Asked (d : List ℕ) (at : ℕ) (s : List ℕ) (n : ℕ) (w : Written) : Type 0 where
+  pub answer : w ≡ roomFor (length d) at n
+  pub size : n ≡ length s
+
+module _ {d : List ℕ} {at : ℕ} {s : List ℕ} {n : ℕ} {w : Written} (a : Asked d at s n w) where
+  asked-wrote : w ≡ wrote d at s
+  asked-wrote = a .answer ∙ ap (roomFor (length d) at) (a .size)
+
+  pub asked-room : w .number ≡ 0 → at + n ≤ length d
+  asked-room z = omega (arith, has-room d at s asked-wrote z, a .size)
+
+  pub asked-refused : (w .number ≡ 0 → ⊥) → (w ≡ wrote d at s) × (d ≡ put d at s)
+  asked-refused z = refused-writing d at s asked-wrote z
+
+  pub asked-written : {e t : List ℕ} → w .number ≡ 0 → e ≡ over d at t → t ≡ s → (w ≡ wrote d at s) × (e ≡ put d at s)
+  asked-written z p q = written d at s asked-wrote z (p ∙ ap (over d at) q)
+
+-- the same inside a writer, where there is room
+pub put-run : {d e : List ℕ} {at n : ℕ} {s t : List ℕ} → n ≡ length s → e ≡ over d at t → t ≡ s → Run d at s e (at + n)
+put-run {d} {e} {at} size p q = record { bytes = p ∙ ap (over d at) q; next = ap (λ (k : ℕ). at + k) size }

@@ -2,7 +2,7 @@
 use mathlib.Core.Path.{_≡_, refl, sym, ap, ap₂, _∙_}
 use mathlib.Core.Bool.{Bool, true, cond}
 use mathlib.Core.List.{List, [], _∷_, _++_, append-assoc}
-use Prim.Native.Nat.{ℕ, zero, suc, _+_, _^_, _≤_, _<_}
+use Prim.Native.Nat.{ℕ, zero, suc, _^_, _≤_, _<_}
 use native.Mathlib.Omega.{arith}
 use borrow.Author.Tests.{lt-ltb}
 use lib.Dec.{lit≤, lit<}
@@ -14,8 +14,12 @@ use Rattle.ion.specs.Numbers.VarUInt.{varuint, groupCount, readVarUInt}
 use Rattle.ion.specs.Numbers.VarInt.{signed, varint, isNegative, readVarInt}
 use Rattle.ion.specs.Numbers.Int.{int, readInt}
 use Rattle.ion.specs.Pair.Offset.{WithinDay, offsetMinutes, rawOffset}
+use Rattle.ion.specs.Calls.Accepted.{timeIn}
+use Rattle.ion.specs.Calls.Utc.{withTime}
 use Rattle.ion.specs.Value.Encode.{offsetBytes, varuints, fieldList, fieldCount, fractionBytes, bodyFrom}
-use Rattle.ion.specs.Value.Decode.{found, nothing, signedOffset, offsetFrom, decodeOffset, oneMore, fieldFrom, decodeFields, fractionFrom, decodeFraction, filled, precisionWith, fieldsFrom, afterFields, afterOffset, fromOffset, decodeBody, isFieldCount}
+use Rattle.ion.specs.Value.Decode.{found, nothing, signedOffset, offsetFrom, decodeOffset, oneMore, fieldFrom, decodeFields}
+use Rattle.ion.specs.Value.Decode.{fractionFrom, decodeFraction, filled, precisionWith, isFieldCount, fieldsFrom}
+use Rattle.ion.specs.Value.Decode.{afterFields, afterOffset, fromOffset, decodeBody}
 use Rattle.ion.specs.declared.Fields.{Fields}
 use Rattle.ion.specs.declared.Body.{Body}
 use Rattle.ion.specs.declared.offset.Offset.{Offset}
@@ -35,7 +39,7 @@ signed-minutes : (z : ℤ) → signedOffset (isNegative z) (natAbs z) ≡ Known 
 signed-minutes (pos n) = refl
 signed-minutes (negsuc n) = refl
 
-pub offset-back : (o : Offset) (r : List ℕ) → WithinDay o → decodeOffset (offsetBytes o ++ r) ≡ found (o, r)
+offset-back : (o : Offset) (r : List ℕ) → WithinDay o → decodeOffset (offsetBytes o ++ r) ≡ found (o, r)
 unfolding decodeOffset offsetBytes varint
 offset-back Unknown r h =
     ap (offsetFrom (signed true 0 ++ r)) (read-signed 1439 true 0 r (lit≤ tt))
@@ -47,126 +51,105 @@ offset-back (Known m) r h =
 
 -- ---- the fields
 
-pub fields-back : (n : ℕ) (l r : List ℕ) → Below 16384 l → length l ≤ n → (length l < n → r ≡ []) → decodeFields n (varuints l ++ r) ≡ found (l, r)
+-- where a byte is left, another is decoded
+pub field-next : (n : ℕ) (t : List ℕ) → 0 < length t → decodeFields (suc n) t ≡ fieldFrom (decodeFields n) t (readVarUInt 16383 t)
+unfolding decodeFields
+field-next n [] h = absurd (omega arith)
+field-next n (b ∷ t) h = refl
+
+fields-back : (n : ℕ) (l r : List ℕ) → Below 16384 l → length l ≤ n → (length l < n → r ≡ [])
+    → decodeFields n (varuints l ++ r) ≡ found (l, r)
 unfolding varuints decodeFields
 fields-back zero [] r h k z = refl
 fields-back zero (v ∷ l) r h k z = absurd (omega arith)
 fields-back (suc n) [] r h k z = rw (z (omega arith))
 fields-back (suc n) (v ∷ l) r h k z =
+    let t = varuints l ++ r in
+    let s = varuint v ++ t in
+    let x = h 0 in
     rw (append-assoc (varuint v) (varuints l) r)
-    (go (fields-back n l r (λ i. h (suc i)) (omega arith) (λ q. z (omega arith))) (varuint v ++ t) refl some)
-  where
-    t : List ℕ
-    t = varuints l ++ r
-
-    some : 0 < length (varuint v ++ t)
-    some = omega (arith, length-append (varuint v) t, length-varuint v, count-some v)
-
-    go : decodeFields n t ≡ found (l, r) → (s : List ℕ) → varuint v ++ t ≡ s → 0 < length s → decodeFields (suc n) s ≡ found (v ∷ l, r)
-    go ih [] e p = absurd (omega arith)
-    go ih (b ∷ s) e p =
-        let d : drop (groupCount v) (b ∷ s) ≡ t = ap (drop (groupCount v)) (sym e) ∙ drop-at (varuint v) t (groupCount v) (length-varuint v) in
-        let f : readVarUInt 16383 (b ∷ s) ≡ uint.Value v (groupCount v) = ap (readVarUInt 16383) (sym e) ∙ read-varuint 16383 v t (let x = h 0 in omega arith) in
-        ap (fieldFrom (decodeFields n) (b ∷ s)) f
-        ∙ ap (λ (x : List ℕ). oneMore v (decodeFields n x)) d
-        ∙ ap (oneMore v) ih
+    (field-next n s (omega (arith, length-append (varuint v) t, length-varuint v, count-some v))
+    ∙ ap (fieldFrom (decodeFields n) s) (read-varuint 16383 v t (omega arith))
+    ∙ ap (λ (y : List ℕ). oneMore v (decodeFields n y)) (drop-at (varuint v) t (groupCount v) (length-varuint v))
+    ∙ ap (oneMore v) (fields-back n l r (λ i. h (suc i)) (omega arith) (λ q. z (omega arith))))
 
 -- ---- the fraction
 
-pub fraction-back : (d c : ℕ) → d ≤ 63 → c < 2 ^ 64 → (d ≡ 0 → c ≡ 0) → decodeFraction (fractionBytes d c) ≡ found (d, c)
+fraction-next : (t : List ℕ) → 0 < length t → decodeFraction t ≡ fractionFrom t (readVarInt 63 t)
+unfolding decodeFraction
+fraction-next [] h = absurd (omega arith)
+fraction-next (b ∷ t) h = refl
+
+fraction-back : (d c : ℕ) → d ≤ 63 → c < 2 ^ 64 → (d ≡ 0 → c ≡ 0) → decodeFraction (fractionBytes d c) ≡ found (d, c)
 unfolding decodeFraction fractionBytes
 fraction-back zero c h l z = ap (λ (x : ℕ). found (0, x)) (sym (z refl))
-fraction-back (suc d) c h l z = ap decodeFraction (fraction-bytes d c) ∙ go (signed true (suc d) ++ int c) refl some
-  where
-    some : 0 < length (signed true (suc d) ++ int c)
-    some = omega (arith, length-append (signed true (suc d)) (int c), length-signed true (suc d), signed-some (suc d))
-
-    go : (s : List ℕ) → signed true (suc d) ++ int c ≡ s → 0 < length s → decodeFraction s ≡ found (suc d, c)
-    go [] e p = absurd (omega arith)
-    go (b ∷ s) e p =
-        let n = length (signed true (suc d)) in
-        let f : readVarInt 63 (b ∷ s) ≡ int.Value true (suc d) n = ap (readVarInt 63) (sym e) ∙ read-signed 63 true (suc d) (int c) h in
-        let k : readInt (drop n (b ∷ s)) ≡ magnitude.Value c = ap (λ (x : List ℕ). readInt (drop n x)) (sym e) ∙ ap readInt (drop-append-seam (signed true (suc d)) (int c)) ∙ read-int c l in
-        ap (fractionFrom (b ∷ s)) f ∙ rw (lt-ltb 0 (suc d) (omega arith), k)
+fraction-back (suc d) c h l z =
+    let e = signed true (suc d) in
+    let s = e ++ int c in
+    ap decodeFraction (fraction-bytes d c)
+    ∙ fraction-next s (omega (arith, length-append e (int c), length-signed true (suc d), signed-some (suc d)))
+    ∙ ap (fractionFrom s) (read-signed 63 true (suc d) (int c) h)
+    ∙ rw (lt-ltb 0 (suc d) (omega arith), drop-append-seam e (int c), read-int c l)
 
 -- ---- the whole
 
--- the fields that are written, and what they tell
-abbrev pub here : Fields → List ℕ
-here u = take (fieldCount (u .precision)) (fieldList u)
+-- the fields that are written at a precision
+abbrev written : Fields → ℕ → List ℕ
+written u p = take (fieldCount p) (fieldList u)
 
-record Told (u : Fields) (l : List ℕ) (p : ℕ) : Type 0 where
+-- as many numbers as are written at a precision
+record IsCount (k p : ℕ) : Type 0 where
+  precision : precisionWith k ≡ p
+  most : k ≤ 6
+  fewer : k < 6 → p < 4
+
+-- the fields that are written give back all six, and the precision
+record GivesBack (u : Fields) (l : List ℕ) (p : ℕ) : Type 0 where
   all : filled l ≡ fieldList u
-  precision : precisionWith (length l) ≡ p
   counted : isFieldCount (length l) ≡ true
-  most : length l ≤ 6
-  fewer : length l < 6 → p < 4
+  number : IsCount (length l) p
 
-fields-are : (u : Fields) (v : List ℕ) (k : ℕ) → v ≡ fieldList u → k ≡ u .precision → u .offset ≡ rawOffset 0 → fieldsFrom v k (u .digits) ≡ u
+fields-are : (u : Fields) (v : List ℕ) (k : ℕ) → v ≡ fieldList u → k ≡ u .precision → u .offset ≡ rawOffset 0
+    → fieldsFrom v k (u .digits) ≡ u
 fields-are u v k e f z =
-    ap₂ (λ (w : List ℕ) (j : ℕ). fieldsFrom w j (u .digits)) e f
-    ∙ λ i.
-    record {
-      year = u .year;
-      month = u .month;
-      day = u .day;
-      hour = u .hour;
-      minute = u .minute;
-      second = u .second;
-      precision = u .precision;
-      digits = u .digits;
-      offset = sym z i;
-    }
+    ap₂ (λ (w : List ℕ) (j : ℕ). fieldsFrom w j (u .digits)) e f ∙ ap (withTime u (timeIn u)) (sym z)
 
 module _ (x : Body) (p : Encodable x) where
-  told-at : (k : ℕ) → x .utc .precision ≡ k → Told (x .utc) (take (fieldCount k) (fieldList (x .utc))) k
+  given-back-at : (k : ℕ) → x .utc .precision ≡ k → GivesBack (x .utc) (written (x .utc) k) k
   unfolding fieldCount filled precisionWith
-  told-at zero e =
-      record {
-        all = rw (p .no-month (omega arith), p .no-day (omega arith), p .no-hour (omega arith), p .no-minute (omega arith), p .no-second (omega arith));
-        precision = refl;
-        counted = refl;
-        most = omega arith;
-        fewer = λ q. omega arith;
-      }
-  told-at (suc zero) e =
-      record {
-        all = rw (p .no-day (omega arith), p .no-hour (omega arith), p .no-minute (omega arith), p .no-second (omega arith));
-        precision = refl;
-        counted = refl;
-        most = omega arith;
-        fewer = λ q. omega arith;
-      }
-  told-at (suc (suc zero)) e =
-      record {
-        all = rw (p .no-hour (omega arith), p .no-minute (omega arith), p .no-second (omega arith));
-        precision = refl;
-        counted = refl;
-        most = omega arith;
-        fewer = λ q. omega arith;
-      }
-  told-at (suc (suc (suc zero))) e =
-      record { all = rw (p .no-second (omega arith)); precision = refl; counted = refl; most = omega arith; fewer = λ q. omega arith }
-  told-at (suc (suc (suc (suc zero)))) e =
-      record { all = refl; precision = refl; counted = refl; most = omega arith; fewer = λ q. omega arith }
-  told-at (suc (suc (suc (suc (suc k))))) e = absurd (omega (arith, p .precise))
-
-  told : Told (x .utc) (here (x .utc)) (x .utc .precision)
-  told = told-at (x .utc .precision) refl
-
-  here-small : Below 16384 (here (x .utc))
-  here-small = below-take 16384 (fieldCount (x .utc .precision)) (fieldList (x .utc)) (lit< tt) (p .small)
+  given-back-at zero e =
+      let hour = p .no-hour (omega arith) in
+      let minute = p .no-minute (omega arith) in
+      let second = p .no-second (omega arith) in
+      record { all = rw (p .no-month (omega arith), p .no-day (omega arith), hour, minute, second); counted = refl; number = omega arith }
+  given-back-at (suc zero) e =
+      let hour = p .no-hour (omega arith) in
+      let minute = p .no-minute (omega arith) in
+      let second = p .no-second (omega arith) in
+      record { all = rw (p .no-day (omega arith), hour, minute, second); counted = refl; number = omega arith }
+  given-back-at (suc (suc zero)) e =
+      let hour = p .no-hour (omega arith) in
+      let minute = p .no-minute (omega arith) in
+      let second = p .no-second (omega arith) in
+      record { all = rw (hour, minute, second); counted = refl; number = omega arith }
+  given-back-at (suc (suc (suc zero))) e = record { all = rw (p .no-second (omega arith)); counted = refl; number = omega arith }
+  given-back-at (suc (suc (suc (suc zero)))) e = record { all = refl; counted = refl; number = omega arith }
+  given-back-at (suc (suc (suc (suc (suc k))))) e = absurd (omega (arith, p .precise))
 
   -- a body is read back as its parts
   pub body-back : decodeBody (bodyFrom (x .offset) (x .utc) (x .coefficient)) ≡ found x
   unfolding decodeBody bodyFrom
   body-back =
       let o = x .offset in
-      let l = here (x .utc) in
-      let d = x .utc .digits in
-      let t = fractionBytes d (x .coefficient) in
+      let u = x .utc in
+      let c = x .coefficient in
+      let l = written u (u .precision) in
+      let b = given-back-at (u .precision) refl in
+      let t = fractionBytes (u .digits) c in
+      let small = below-take 16384 (fieldCount (u .precision)) (fieldList u) (lit< tt) (p .small) in
+      let fields = fields-are u (filled l) (precisionWith (length l)) (b .all) (b .number .precision) (p .no-raw) in
       ap fromOffset (offset-back o (varuints l ++ t) (p .within-day))
-      ∙ ap (afterOffset o) (fields-back 6 l t here-small (told .most) (λ q. no-fraction d (x .coefficient) (p .no-digits (told .fewer q))))
-      ∙ ap (λ (b : Bool). cond b (afterFields o l (decodeFraction t)) nothing) (told .counted)
-      ∙ ap (afterFields o l) (fraction-back d (x .coefficient) (p .few-digits) (p .coefficient) (p .no-coefficient))
-      ∙ ap (λ (w : Fields). found (record { offset = o; utc = w; coefficient = x .coefficient })) (fields-are (x .utc) (filled l) (precisionWith (length l)) (told .all) (told .precision) (p .no-raw))
+      ∙ ap (afterOffset o) (fields-back 6 l t small (b .number .most) (λ q. no-fraction (u .digits) c (p .no-digits (b .number .fewer q))))
+      ∙ ap (λ (q : Bool). cond q (afterFields o l (decodeFraction t)) nothing) (b .counted)
+      ∙ ap (afterFields o l) (fraction-back (u .digits) c (p .few-digits) (p .coefficient) (p .no-coefficient))
+      ∙ ap (λ (w : Fields). found (record { offset = o; utc = w; coefficient = c })) fields

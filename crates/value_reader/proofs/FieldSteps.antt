@@ -11,7 +11,8 @@ use lib.Dec.{eqb, ltb}
 use lib.ListN.{length, take, drop, set, take-append-drop, length-append, length-take, length-drop, length-set, drop-of-length-le}
 use lib.Seq.{drop-drop, drop-set-lt, take-suc-set, length-take-le}
 use Rattle.ion.specs.Numbers.VarUInt.{readVarUInt}
-use Rattle.ion.specs.Value.Decode.{Decoded, found, nothing, oneMore, fieldFrom, decodeFields, decodeFraction, firstValues, filled, precisionWith, fieldsFrom, bodyWith, afterFields, afterOffset, isFieldCount}
+use Rattle.ion.specs.Value.Decode.{Decoded, found, nothing, oneMore, fieldFrom, decodeFields, decodeFraction}
+use Rattle.ion.specs.Value.Decode.{firstValues, filled, precisionWith, isFieldCount, fieldsFrom, bodyWith, afterFields, afterOffset}
 use Rattle.ion.specs.declared.Fields.{Fields}
 use Rattle.ion.specs.declared.Body.{Body}
 use Rattle.ion.specs.declared.VarUIntRead.{VarUIntRead}
@@ -20,6 +21,7 @@ use Rattle.ion.specs.declared.offset.Offset.{Offset}
 use Rattle.timestamp.proofs.Decides.{lt-decides, _and_}
 use Rattle.value_reader.specs.Parsed.{FieldsAre}
 use Rattle.value_reader.specs.declared.decoder.FieldsRead.{FieldsRead}
+use Rattle.value_reader.proofs.DecodeBack.{field-next}
 
 -- ---- one field a turn
 
@@ -55,20 +57,16 @@ unfolding decodeFields
 none-left zero t e = refl
 none-left (suc n) t e = rw e
 
-some-left : (n : ℕ) (t : List ℕ) → 0 < length t → decodeFields (suc n) t ≡ fieldFrom (decodeFields n) t (readVarUInt 16383 t)
-unfolding decodeFields
-some-left n [] h = absurd (omega arith)
-some-left n (b ∷ t) h = refl
-
 pub passed-none : (s : List ℕ) (n : ℕ) → Passed s (decodeFields 6 (drop n s)) firstValues 0 n
 passed-none s n = record { most = omega arith; wide = refl; rest = refl; all = joined-none _ }
 
 module _ {s : List ℕ} {q : Decoded (List ℕ × List ℕ)} {v : List ℕ} {k n : ℕ} (p : Passed s q v k n) where
-  turned : more s k n ≡ true → decodeFields (6 - k) (drop n s) ≡ fieldFrom (decodeFields (6 - (k + 1))) (drop n s) (readVarUInt 16383 (drop n s))
+  turned : more s k n ≡ true
+      → decodeFields (6 - k) (drop n s) ≡ fieldFrom (decodeFields (6 - (k + 1))) (drop n s) (readVarUInt 16383 (drop n s))
   turned t =
       let h = more-left s k n t in
       let e : 6 - k ≡ suc (6 - (k + 1)) = omega arith in
-      rw e (some-left (6 - (k + 1)) (drop n s) (omega (arith, length-drop n s)))
+      rw e (field-next (6 - (k + 1)) (drop n s) (omega (arith, length-drop n s)))
 
   pub passed-more : (m j : ℕ) → more s k n ≡ true → readVarUInt 16383 (drop n s) ≡ uint.Value m j → Passed s q (set v k m) (k + 1) (n + j)
   passed-more m j t e =
@@ -132,7 +130,8 @@ module _ {s : List ℕ} {q : Decoded (List ℕ × List ℕ)} {r : FieldsRead} (f
   unfolding filled
   counted =
       let l = take (r .count) (r .values) in
-      omega (arith, f .most, length-take (r .count) (r .values), ap length (f .values), length-append l (drop (length l) firstValues), length-drop (length l) firstValues)
+      let n = length-drop (length l) firstValues in
+      omega (arith, f .most, length-take (r .count) (r .values), ap length (f .values), length-append l (drop (length l) firstValues))
 
   pub after-fields : (o : Offset) (t : Bool) → (r .found && not (eqb (r .count) 0) && not (eqb (r .count) 4)) ≡ t
       → afterOffset o q ≡ cond t (afterFields o (take (r .count) (r .values)) (decodeFraction (drop (r .next) s))) nothing

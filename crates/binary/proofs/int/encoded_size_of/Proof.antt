@@ -17,13 +17,10 @@ cast-result c = omega (arith, leading-le 64 (c .before .args .value))
 sub-result : tie.Need-sub-result
 sub-result c = omega (arith, leading-le 64 (c .before .args .value))
 
-add-result : tie.Need-add-result
-add-result c = search needs
-
 returns-2 : tie.Need-returns-2
 returns-2 c =
     let a = c .before in
     omega (arith, int-zeros 64 (a .args .value) (omega (arith, c .if1 .left)) (a .fits .value .fits))
 
 pub encoded-size-of-spec : {M : Type 1} → statement M
-encoded-size-of-spec = tie.close (tie.spec returns cast-result sub-result add-result returns-2)
+encoded-size-of-spec = tie.close (tie.spec returns cast-result sub-result (λ c. search needs) returns-2)

@@ -54,31 +54,16 @@ returns-2 c =
     numbered (intAnswer _)
     (sym (read-above s (omega (arith, turn t, value-above 256 (lit< tt) (l .v * 256 + getD s (l .i) 0) (drop (suc (l .i)) s)))))
 
-mul-v : tie.Need-mul-v Inv-loop μ-loop
-mul-v c = search needs
-
-shared-slice-read-v : tie.Need-shared-slice-read-v Inv-loop μ-loop
-shared-slice-read-v c = search needs
-
 cast-v : tie.Need-cast-v Inv-loop μ-loop
 cast-v c = omega (arith, c .shared-slice-known2 .given (c .before .before .before .loop .i))
 
 add-v : tie.Need-add-v Inv-loop μ-loop
 add-v c = omega (arith, c .shared-slice-known2 .given (c .before .before .before .loop .i))
 
-add-i : tie.Need-add-i Inv-loop μ-loop
-add-i c = search needs
-
-loop-less : tie.Need-loop-less Inv-loop μ-loop
-loop-less c = search needs
-
 loop-again : tie.Need-loop-again Inv-loop μ-loop
 loop-again c =
     let t = c .before .before in
     (omega (arith, c .shared-slice-known2 .given (c .before .before .before .loop .i)), search needs, rw (add-one (t .before .loop .i)) (turn t))
-
-encoded-size-of-requires : tie.Need-encoded-size-of-requires Inv-loop μ-loop
-encoded-size-of-requires c κs = search needs
 
 returns-3 : tie.Need-returns-3 Inv-loop μ-loop
 returns-3 c =
@@ -103,13 +88,13 @@ read-u64-spec =
     returns
     loop-holds
     returns-2
-    mul-v
-    shared-slice-read-v
+    (λ c. search needs)
+    (λ c. search needs)
     cast-v
     add-v
-    add-i
-    loop-less
+    (λ c. search needs)
+    (λ c. search needs)
     loop-again
-    encoded-size-of-requires
+    (λ c κs. search needs)
     returns-3
     returns-4)

@@ -12,11 +12,8 @@ cast-result c = omega (arith, leading-le 64 (c .args .magnitude))
 sub-result : tie.Need-sub-result
 sub-result c = omega (arith, leading-le 64 (c .args .magnitude))
 
-add-result : tie.Need-add-result
-add-result c = search needs
-
 returns : tie.Need-returns
 returns c = omega (arith, zeros-signed 64 (c .args .magnitude) (c .fits .magnitude .fits))
 
 pub encoded-size-of-spec : {M : Type 1} → statement M
-encoded-size-of-spec = tie.close (tie.spec cast-result sub-result add-result returns)
+encoded-size-of-spec = tie.close (tie.spec cast-result sub-result (λ c. search needs) returns)

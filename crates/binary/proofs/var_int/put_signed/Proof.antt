@@ -46,14 +46,8 @@ add-buf c = omega (arith, with-sign (c .before) .1)
 slice-write-buf : tie.Need-slice-write-buf
 slice-write-buf c = with-sign (c .before) .0
 
-same-length : tie.Need-same-length
-same-length c = search needs
-
 returns : tie.Need-returns
 returns c = rw (c .before .if1 .taken) (with-sign (c .before) .2)
-
-same-length-2 : tie.Need-same-length-2
-same-length-2 c = search needs
 
 returns-2 : tie.Need-returns-2
 returns-2 c =
@@ -69,7 +63,7 @@ put-signed-spec =
     slice-read-buf
     add-buf
     slice-write-buf
-    same-length
+    (λ c. search needs)
     returns
-    same-length-2
+    (λ c. search needs)
     returns-2)

@@ -56,40 +56,16 @@ whole c =
     ∙ read-first (a .limit) i (drop (suc (a .at)) (a .s .now)) (e .if2 .left)
     ∙ ap (ifShortest (leb 64 (i % 128))) (sym (c .read-groups .ensures ∙ ap₂ (λ (x y : ℕ). scanFrom (a .limit) (x - 1) (i % 64) 1 (drop y (a .s .now))) n (add-one (a .at))))
 
-shared-slice-read-b : tie.Need-shared-slice-read-b
-shared-slice-read-b c = search needs
-
-cast-first : tie.Need-cast-first
-cast-first c = search needs
-
 returns-2 : tie.Need-returns-2
 returns-2 c = numbered varIntAnswer (sym (alone (c .before) ∙ rw (lt-ltb _ _ (c .if3 .taken))))
 
 returns-3 : tie.Need-returns-3
 returns-3 c = numbered varIntAnswer (sym (alone (c .before) ∙ rw (le-ltb _ _ (c .if3 .left))))
 
-add-read-groups : tie.Need-add-read-groups
-add-read-groups c = search needs
-
-encoded-size-of-requires : tie.Need-encoded-size-of-requires
-encoded-size-of-requires c κs = search needs
-
 read-groups-requires : tie.Need-read-groups-requires
 read-groups-requires c κs =
     let a = c .before .before .before .before .before in
     (omega arith, omega (arith, c .encoded-size-of .ensures, signed-u64 (a .args .limit) (a .fits .limit .fits)))
-
-enum-known-m : tie.Need-enum-known-m
-enum-known-m c = search needs
-
-encoded-size-of-requires-2 : tie.Need-encoded-size-of-requires-2
-encoded-size-of-requires-2 c κs = search needs
-
-enum-told : tie.Need-enum-told
-enum-told c = search needs
-
-enum-told-2 : tie.Need-enum-told-2
-enum-told-2 c = search needs
 
 returns-4 : tie.Need-returns-4
 returns-4 c =
@@ -116,17 +92,17 @@ read-i64-spec =
     tie.close
     (tie.spec
     returns
-    shared-slice-read-b
-    cast-first
+    (λ c. search needs)
+    (λ c. search needs)
     returns-2
     returns-3
-    add-read-groups
-    encoded-size-of-requires
+    (λ c. search needs)
+    (λ c κs. search needs)
     read-groups-requires
-    enum-known-m
-    encoded-size-of-requires-2
-    enum-told
-    enum-told-2
+    (λ c. search needs)
+    (λ c κs. search needs)
+    (λ c. search needs)
+    (λ c. search needs)
     returns-4
     returns-5
     returns-6

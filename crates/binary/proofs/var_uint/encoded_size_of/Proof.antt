@@ -12,9 +12,6 @@ cast-bits-used c = omega (arith, leading-le 64 (c .args .value))
 sub-bits-used : tie.Need-sub-bits-used
 sub-bits-used c = omega (arith, leading-le 64 (c .args .value))
 
-add-result : tie.Need-add-result
-add-result c = search needs
-
 returns : tie.Need-returns
 returns c = omega (arith, zeros-count 64 (c .before .args .value) (c .before .fits .value .fits))
 
@@ -22,4 +19,4 @@ returns-2 : tie.Need-returns-2
 returns-2 c = omega (arith, zeros-count 64 (c .before .args .value) (c .before .fits .value .fits), c .if1 .left)
 
 pub encoded-size-of-spec : {M : Type 1} → statement M
-encoded-size-of-spec = tie.close (tie.spec cast-bits-used sub-bits-used add-result returns returns-2)
+encoded-size-of-spec = tie.close (tie.spec cast-bits-used sub-bits-used (λ c. search needs) returns returns-2)

@@ -12,15 +12,6 @@ returns c =
     let h : a .limit < a .v * 128 + a .b % 128 = omega arith in
     rw (lt-ltb (a .limit) (a .v * 128 + a .b % 128) h)
 
-mul-w : tie.Need-mul-w
-mul-w c = search needs
-
-cast-w : tie.Need-cast-w
-cast-w c = search needs
-
-add-w : tie.Need-add-w
-add-w c = search needs
-
 returns-2 : tie.Need-returns-2
 returns-2 c = rw (lt-ltb _ _ (c .if2 .taken))
 
@@ -28,4 +19,4 @@ returns-3 : tie.Need-returns-3
 returns-3 c = rw (le-ltb _ _ (c .if2 .left))
 
 pub last-group-spec : {M : Type 1} → statement M
-last-group-spec = tie.close (tie.spec returns mul-w cast-w add-w returns-2 returns-3)
+last-group-spec = tie.close (tie.spec returns (λ c. search needs) (λ c. search needs) (λ c. search needs) returns-2 returns-3)

@@ -1,78 +1,35 @@
--- `var_uint::put_groups` meets its contract. The loop's invariant: the places that are left, in front of what is stored, are those that the
+-- `var_uint::put_groups` meets its contract. The loop's invariant: the groups that are left, in front of those stored, are those that the
 -- loop began with. Assumes nothing.
 use borrow.Author.Needs.{needs}
-use mathlib.Core.Path.{_≡_, refl, _∙_}
-use Prim.Native.Nat.{_-_, _%_, _≤_}
+use mathlib.Core.Path.{_≡_, _∙_}
+use Prim.Native.Nat.{_-_}
 use native.Mathlib.Omega.{arith}
-use lib.ListN.{length, take, drop, length-set}
-use lib.Seq.{take-set-le}
-use Rattle.places.specs.Places.{plain, placesOn}
-use Rattle.places.proofs.Laws.{place-stored}
+use lib.ListN.{length, length-set}
+use Rattle.places.specs.Places.{plain}
+use Rattle.output.proofs.Stores.{Storing, storing-none, storing-next}
 use Rattle.binary.proofs.Stored.{groups-stored}
 use Rattle.binary.proofs.var_uint.put_groups.Statement.{statement}
 use Rattle.binary.proofs.var_uint.put_groups.Tie as tie
 
 abbrev Inv-loop : tie.InvT-loop
-Inv-loop buf₀ at n value i₀ q₀ buf i q =
-    (at ≤ i) × (i ≤ i₀) × (length buf ≡ length buf₀) × (take at buf ≡ take at buf₀)
-    × (placesOn 128 plain (i - at) q (drop i buf) ≡ placesOn 128 plain (i₀ - at) q₀ (drop i₀ buf₀))
+Inv-loop buf₀ at n value i₀ q₀ buf i q = Storing 128 plain buf₀ at (n - 1) q₀ buf i q
 
 abbrev μ-loop : tie.MeasureT-loop
 μ-loop buf₀ at n value i₀ q₀ buf i q = i
 
 -- the buffer keeps its length
 long : (c : tie.At-loop Inv-loop μ-loop) → length (c .loop .buf) ≡ length (c .before .args .buf .now)
-long c = c .loop .inv .2 ∙ length-set (c .before .args .buf .now) _ _
-
-add-i : tie.Need-add-i Inv-loop μ-loop
-add-i c = search needs
-
-sub-i : tie.Need-sub-i Inv-loop μ-loop
-sub-i c = search needs
-
-add-buf : tie.Need-add-buf Inv-loop μ-loop
-add-buf c = search needs
-
-cast-buf : tie.Need-cast-buf Inv-loop μ-loop
-cast-buf c = search needs
-
-slice-write-buf : tie.Need-slice-write-buf Inv-loop μ-loop
-slice-write-buf c = search needs
-
-loop-holds : tie.Need-loop-holds Inv-loop μ-loop
-loop-holds c = (omega arith, omega arith, refl, refl, refl)
-
-sub-i-2 : tie.Need-sub-i-2 Inv-loop μ-loop
-sub-i-2 c = search needs
-
-cast-buf-2 : tie.Need-cast-buf-2 Inv-loop μ-loop
-cast-buf-2 c = search needs
-
-slice-write-buf-2 : tie.Need-slice-write-buf-2 Inv-loop μ-loop
-slice-write-buf-2 c = omega (arith, long (c .before))
-
-loop-less : tie.Need-loop-less Inv-loop μ-loop
-loop-less c = search needs
+long c = c .loop .inv .size ∙ length-set (c .before .args .buf .now) _ _
 
 loop-again : tie.Need-loop-again Inv-loop μ-loop
 loop-again c =
-    let l = c .before .loop in
-    let a = c .before .before .args in (
-      search needs,
-      search needs,
-      search needs,
-      take-set-le (a .at) (l .buf) (l .i - 1) (l .q % 128) (omega arith) ∙ l .inv .3,
-      place-stored 128 plain (l .buf) (a .at) (l .i) (l .q) (c .loop-test .taken) (omega (arith, long (c .before))) ∙ l .inv .4,
-    )
-
-same-length : tie.Need-same-length Inv-loop μ-loop
-same-length c = long (c .before)
+    let s = c .before .before in
+    storing-next (c .before .loop .inv) (c .loop-test .taken) (omega (arith, s .pre, long (c .before), c .before .loop .inv .size))
 
 returns : tie.Need-returns Inv-loop μ-loop
 returns c =
-    let l = c .before .loop in
-    let a = c .before .before .args in
-    groups-stored (a .buf .now) (l .buf) (a .at) (a .n) (a .value) (l .i) (l .q) (c .before .before .pre .0) (c .before .before .pre .1) (omega arith) (l .inv .3) (l .inv .4)
+    let s = c .before .before in
+    groups-stored (s .args .buf .now) _ _ _ _ _ _ (s .pre .0) (s .pre .1) (c .loop-test .left) (c .before .loop .inv)
 
 pub put-groups-spec : {M : Type 1} → statement M
 put-groups-spec =
@@ -80,16 +37,16 @@ put-groups-spec =
     (tie.spec
     Inv-loop
     μ-loop
-    add-i
-    sub-i
-    cast-buf
-    add-buf
-    slice-write-buf
-    loop-holds
-    sub-i-2
-    cast-buf-2
-    slice-write-buf-2
-    loop-less
+    (λ c. search needs)
+    (λ c. search needs)
+    (λ c. search needs)
+    (λ c. search needs)
+    (λ c. search needs)
+    (λ c. storing-none 128 plain _ _ _ _ _ (omega arith))
+    (λ c. search needs)
+    (λ c. search needs)
+    (λ c. omega (arith, long (c .before), c .before .loop .inv .to))
+    (λ c. search needs)
     loop-again
-    same-length
+    (λ c. long (c .before))
     returns)

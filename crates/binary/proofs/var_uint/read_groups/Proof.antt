@@ -49,20 +49,8 @@ returns c =
     let e : a .most - l .k ≡ suc (a .most - (l .k + 1)) = omega arith in
     sym (l .inv .1 ∙ ap₂ (λ (n : ℕ) (r : List ℕ). scanFrom (a .limit) n (l .v) (l .k) r) e (drop-of-length-le (a .s .now) (c .if1 .taken)))
 
-shared-slice-read-b : tie.Need-shared-slice-read-b Inv-loop μ-loop
-shared-slice-read-b c = search needs
-
-add-last-group : tie.Need-add-last-group Inv-loop μ-loop
-add-last-group c = search needs
-
-last-group-requires : tie.Need-last-group-requires Inv-loop μ-loop
-last-group-requires c κs = search needs
-
 returns-2 : tie.Need-returns-2 Inv-loop μ-loop
 returns-2 c = c .last-group .ensures ∙ sym (turn (c .before .before .before) ∙ scan-last _ _ _ _ _ _ _ (c .before .if2 .taken) refl)
-
-add-k : tie.Need-add-k Inv-loop μ-loop
-add-k c = search needs
 
 returns-3 : tie.Need-returns-3 Inv-loop μ-loop
 returns-3 c =
@@ -74,17 +62,8 @@ returns-3 c =
 mul-v : tie.Need-mul-v Inv-loop μ-loop
 mul-v c = omega (arith, short _ _ (c .before .before .before .before .before .loop .inv .0) (omega (arith, c .if3 .left)))
 
-cast-v : tie.Need-cast-v Inv-loop μ-loop
-cast-v c = search needs
-
 add-v : tie.Need-add-v Inv-loop μ-loop
 add-v c = omega (arith, short _ _ (c .before .before .before .before .before .loop .inv .0) (omega (arith, c .if3 .left)))
-
-add-i : tie.Need-add-i Inv-loop μ-loop
-add-i c = search needs
-
-loop-less : tie.Need-loop-less Inv-loop μ-loop
-loop-less c = search needs
 
 loop-again : tie.Need-loop-again Inv-loop μ-loop
 loop-again c =
@@ -109,16 +88,16 @@ read-groups-spec =
     μ-loop
     loop-holds
     returns
-    shared-slice-read-b
-    add-last-group
-    last-group-requires
+    (λ c. search needs)
+    (λ c. search needs)
+    (λ c κs. search needs)
     returns-2
-    add-k
+    (λ c. search needs)
     returns-3
     mul-v
-    cast-v
+    (λ c. search needs)
     add-v
-    add-i
-    loop-less
+    (λ c. search needs)
+    (λ c. search needs)
     loop-again
     returns-4)

@@ -12,14 +12,8 @@ use Rattle.binary.proofs.VarUInts.{count-u64, read-padded, read-scanned
 use Rattle.binary.proofs.var_uint.read_u64.Statement.{statement}
 use Rattle.binary.proofs.var_uint.read_u64.Tie as tie
 
-zero-first-requires : tie.Need-zero-first-requires
-zero-first-requires c κs = search needs
-
 returns : tie.Need-returns
 returns c = numbered varUIntAnswer (sym (read-padded _ _ (sym (c .before .zero-first .ensures) ∙ c .if1 .taken)))
-
-encoded-size-of-requires : tie.Need-encoded-size-of-requires
-encoded-size-of-requires c κs = search needs
 
 read-groups-requires : tie.Need-read-groups-requires
 read-groups-requires c κs =
@@ -40,4 +34,4 @@ returns-2 c =
 pub read-u64-spec : {M : Type 1} → statement M
 read-u64-spec =
     tie.close
-    (tie.spec zero-first-requires returns encoded-size-of-requires read-groups-requires returns-2)
+    (tie.spec (λ c κs. search needs) returns (λ c κs. search needs) read-groups-requires returns-2)

@@ -14,17 +14,11 @@ use Rattle.binary.proofs.var_uint.zero_first.Tie as tie
 returns : tie.Need-returns
 returns c = sym (ap zeroFirst (drop-of-length-le (c .before .args .s .now) (c .if1 .taken)))
 
-sub-if2 : tie.Need-sub-if2
-sub-if2 c = search needs
-
 returns-2 : tie.Need-returns-2
 returns-2 c =
     let a = c .before .before .args in
     let s = a .s .now in
     sym (ap zeroFirst (drop-cons s (a .at) 0 (omega arith) ∙ ap (λ r. getD s (a .at) 0 ∷ r) (drop-of-length-le s {i = suc (a .at)} (omega arith))))
-
-shared-slice-read-result : tie.Need-shared-slice-read-result
-shared-slice-read-result c = search needs
 
 returns-3 : tie.Need-returns-3
 returns-3 c =
@@ -33,4 +27,4 @@ returns-3 c =
     sym (ap zeroFirst (drop-cons s (a .at) 0 (omega arith)) ∙ first-of-two (getD s (a .at) 0) (drop (suc (a .at)) s) (omega (arith, length-drop (suc (a .at)) s, c .before .if2 .left)))
 
 pub zero-first-spec : {M : Type 1} → statement M
-zero-first-spec = tie.close (tie.spec returns sub-if2 returns-2 shared-slice-read-result returns-3)
+zero-first-spec = tie.close (tie.spec returns (λ c. search needs) returns-2 (λ c. search needs) returns-3)
