@@ -124,7 +124,8 @@ scanned-last l v k c w r e h b =
       bytes = λ g. rw (← e, d, add-one k) (place-last k v c r h (g 0));
     }
 
-scanned-more : (l v k c w : ℕ) (r : List ℕ) (m j : ℕ) → v * 128 + c % 128 ≡ w → c < 128 → Scanned l w (k + 1) r m j → Scanned l v k (c ∷ r) m j
+scanned-more : (l v k c w : ℕ) (r : List ℕ) (m j : ℕ) → v * 128 + c % 128 ≡ w → c < 128 → Scanned l w (k + 1) r m j
+    → Scanned l v k (c ∷ r) m j
 scanned-more l v k c w r m j e h s =
     let d : j - k ≡ suc (j - (k + 1)) = omega (arith, s .some) in
     let f : v * 128 + c ≡ w = omega arith in

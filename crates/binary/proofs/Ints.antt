@@ -75,10 +75,12 @@ read-int-is s m b e = go (ltb v (2 ^ 64)) (eqb (intCount v) (length s)) refl ref
     v : ℕ
     v = bigEndian s
 
-    go : (t u : Bool) → ltb v (2 ^ 64) ≡ t → eqb (intCount v) (length s) ≡ u → cond (t && u) (Value v) Bad ≡ Value m → (m < 2 ^ 64) × (s ≡ int m)
+    go : (t u : Bool) → ltb v (2 ^ 64) ≡ t → eqb (intCount v) (length s) ≡ u → cond (t && u) (Value v) Bad ≡ Value m
+        → (m < 2 ^ 64) × (s ≡ int m)
     go true true f g e =
         let em : v ≡ m = cc in
-        (rw em at (ltb-true v (2 ^ 64) f), sym (value-is 256 s b) ∙ bytes-int v (length s) (sym (eqb-true (intCount v) (length s) g)) ∙ ap int em)
+        let n = eqb-true (intCount v) (length s) g in
+        (rw em at (ltb-true v (2 ^ 64) f), sym (value-is 256 s b) ∙ bytes-int v (length s) (sym n) ∙ ap int em)
     go true false f g e = absurd (let z : _≡_ {A = ℕ} 0 1 = cc in omega arith)
     go false u f g e = absurd (let z : _≡_ {A = ℕ} 0 1 = cc in omega arith)
 

@@ -41,8 +41,11 @@ sign-stored d x at m h e =
     let r = t .rest ++ drop (at + suc (length (t .rest))) d in
     let f : x ≡ take at d ++ (t .byte ∷ r) = e ∙ ap (over d at) (t .is) in
     let p : length (take at d) ≡ at = length-take-le at d h in
-    let g : getD x at 0 ≡ t .byte = ap (λ (l : List ℕ). getD l at 0) f ∙ getD-at (take at d) (t .byte) r 0 at p in
-    (rw f (omega (arith, length-append (take at d) (t .byte ∷ r))), omega (arith, t .below), rw (g, f, t .is) (set-at (take at d) (t .byte) r (t .byte + 64) at p))
+    let g : getD x at 0 ≡ t .byte = ap (λ (l : List ℕ). getD l at 0) f ∙ getD-at (take at d) (t .byte) r 0 at p in (
+      rw f (omega (arith, length-append (take at d) (t .byte ∷ r))),
+      omega (arith, t .below),
+      rw (g, f, t .is) (set-at (take at d) (t .byte) r (t .byte + 64) at p),
+    )
 
 pub put-unsigned : (d x : List ℕ) (at m : ℕ) → x ≡ over d at (groups (signedCount m) m) → x ≡ over d at (signed false m)
 unfolding signed

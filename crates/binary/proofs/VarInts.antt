@@ -81,7 +81,8 @@ sign-append false b t r = refl
 sign-append true b t r = refl
 
 -- a byte that was given its sign is read as it was, and with that sign
-sign-read : (l : ℕ) (g : Bool) (b : ℕ) (t : List ℕ) → b % 128 < 64 → readVarInt l (signFirst g (b ∷ t)) ≡ ifShortest g (scanFrom l (signedCount l) 0 0 (b ∷ t))
+sign-read : (l : ℕ) (g : Bool) (b : ℕ) (t : List ℕ) → b % 128 < 64
+    → readVarInt l (signFirst g (b ∷ t)) ≡ ifShortest g (scanFrom l (signedCount l) 0 0 (b ∷ t))
 unfolding readVarInt
 sign-read l false b t h =
     let e : unsign b ≡ b = omega arith in
@@ -117,7 +118,8 @@ read-signed l g m r h =
     ∙ (rw (eq-eqb n n refl))
     ∙ ap (Value g m) (sym (length-signed g m))
 
-pub read-varint : (l : ℕ) (z : ℤ) (r : List ℕ) → natAbs z ≤ l → readVarInt l (varint z ++ r) ≡ Value (isNegative z) (natAbs z) (length (varint z))
+pub read-varint : (l : ℕ) (z : ℤ) (r : List ℕ) → natAbs z ≤ l
+    → readVarInt l (varint z ++ r) ≡ Value (isNegative z) (natAbs z) (length (varint z))
 unfolding varint
 read-varint l z r h = read-signed l (isNegative z) (natAbs z) r h
 
@@ -137,7 +139,8 @@ unfolding readVarInt
 opened l c r g m j e = go (scanFrom l (signedCount l) 0 0 (unsign c ∷ r)) refl e
   where
     pass : (x k : ℕ) → scanFrom l (signedCount l) 0 0 (unsign c ∷ r) ≡ found.Value x k → (t : Bool) → eqb (signedCount x) k ≡ t
-        → cond t (Value (leb 64 (c % 128)) x k) Bad ≡ Value g m j → (leb 64 (c % 128) ≡ g) × Scanned l 0 0 (unsign c ∷ r) m j × (signedCount m ≡ j)
+        → cond t (Value (leb 64 (c % 128)) x k) Bad ≡ Value g m j
+        → (leb 64 (c % 128) ≡ g) × Scanned l 0 0 (unsign c ∷ r) m j × (signedCount m ≡ j)
     pass x k f false q e = absurd (let z : _≡_ {A = ℕ} 0 1 = cc in omega arith)
     pass x k f true q e =
         let eg : leb 64 (c % 128) ≡ g = cc in
@@ -190,7 +193,8 @@ unfolding readVarInt
 read-none l = refl
 
 -- the magnitude of a single byte is in its shortest form
-pub read-alone : (l b : ℕ) (r : List ℕ) → 128 ≤ b → b < 256 → readVarInt l (b ∷ r) ≡ cond (ltb l (b % 64)) Bad (Value (leb 64 (b % 128)) (b % 64) 1)
+pub read-alone : (l b : ℕ) (r : List ℕ) → 128 ≤ b → b < 256
+    → readVarInt l (b ∷ r) ≡ cond (ltb l (b % 64)) Bad (Value (leb 64 (b % 128)) (b % 64) 1)
 unfolding readVarInt
 read-alone l b r h k =
     let n = signedCount l - 1 in
@@ -200,11 +204,13 @@ read-alone l b r h k =
     ∙ ap (ifShortest (leb 64 (b % 128))) (scan-last l n 0 0 (unsign b) (b % 64) r (omega arith) (omega arith))
     ∙ go o (ltb l (b % 64))
   where
-    go : signedCount (b % 64) ≡ 1 → (t : Bool) → ifShortest (leb 64 (b % 128)) (cond t found.Bad (found.Value (b % 64) (0 + 1))) ≡ cond t Bad (Value (leb 64 (b % 128)) (b % 64) 1)
+    go : signedCount (b % 64) ≡ 1 → (t : Bool)
+        → ifShortest (leb 64 (b % 128)) (cond t found.Bad (found.Value (b % 64) (0 + 1))) ≡ cond t Bad (Value (leb 64 (b % 128)) (b % 64) 1)
     go o true = refl
     go o false = rw (eq-eqb (signedCount (b % 64)) 1 o)
 
-pub read-first : (l b : ℕ) (r : List ℕ) → b < 128 → readVarInt l (b ∷ r) ≡ ifShortest (leb 64 (b % 128)) (scanFrom l (signedCount l - 1) (b % 64) 1 r)
+pub read-first : (l b : ℕ) (r : List ℕ) → b < 128
+    → readVarInt l (b ∷ r) ≡ ifShortest (leb 64 (b % 128)) (scanFrom l (signedCount l - 1) (b % 64) 1 r)
 unfolding readVarInt
 read-first l b r h =
     let n = signedCount l - 1 in

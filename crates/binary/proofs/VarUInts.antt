@@ -106,7 +106,8 @@ opened : (l : ℕ) (s : List ℕ) (m j : ℕ) → readVarUInt l s ≡ Value m j 
 unfolding readVarUInt
 opened l s m j e = go (zeroFirst s) refl e
   where
-    go : (t : Bool) → zeroFirst s ≡ t → cond t Bad (scanFrom l (groupCount l) 0 0 s) ≡ Value m j → (zeroFirst s ≡ false) × Scanned l 0 0 s m j
+    go : (t : Bool) → zeroFirst s ≡ t → cond t Bad (scanFrom l (groupCount l) 0 0 s) ≡ Value m j
+        → (zeroFirst s ≡ false) × Scanned l 0 0 s m j
     go true f e = absurd (let z : _≡_ {A = ℕ} 0 1 = cc in omega arith)
     go false f e = (f, scan-gives l (groupCount l) 0 0 s m j e)
 

@@ -68,11 +68,11 @@ module _ (s : Timestamp) (b : List ℕ) (e : ℕ) (front : take e b ≡ 0 ∷ 0 
   pub stored-short : e - 2 ≤ 13 → take (e - 1) (drop 1 (set b 1 (0x60 + (e - 2)))) ≡ valueOf s
   unfolding valueOf
   stored-short h =
-      one-stored b (bodyOf s) e (0x60 + (e - 2)) front
-      ∙ rw body-size (ap (λ (t : List ℕ). t ++ bodyOf s) (sym (header-short (length (bodyOf s)) (omega (arith, body-size)))))
+      let short = header-short (length (bodyOf s)) (omega (arith, body-size)) in
+      one-stored b (bodyOf s) e (0x60 + (e - 2)) front ∙ rw body-size (ap (λ (t : List ℕ). t ++ bodyOf s) (sym short))
 
   pub stored-long : 13 < e - 2 → e - 2 < 128 → take e (set (set b 0 0x6e) 1 (0x80 + (e - 2))) ≡ valueOf s
   unfolding valueOf
   stored-long h l =
-      two-stored b (bodyOf s) e 0x6e (0x80 + (e - 2)) front
-      ∙ rw body-size (ap (λ (t : List ℕ). t ++ bodyOf s) (sym (header-long (length (bodyOf s)) (omega (arith, body-size)) (omega (arith, body-size)))))
+      let long = header-long (length (bodyOf s)) (omega (arith, body-size)) (omega (arith, body-size)) in
+      two-stored b (bodyOf s) e 0x6e (0x80 + (e - 2)) front ∙ rw body-size (ap (λ (t : List ℕ). t ++ bodyOf s) (sym long))

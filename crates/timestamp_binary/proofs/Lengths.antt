@@ -82,6 +82,7 @@ body-length s p =
     let u = utcFields f in
     let i = utc-is v in
     let c = s .attoseconds / scale (f .digits) in
+    let below : c < 10 ^ 18 = omega (arith, div-le-self (s .attoseconds) (scale (f .digits)), v .attoseconds) in
     let l = take (fieldCount (u .precision)) (fieldList u) in
     let after = u .month ∷ u .day ∷ u .hour ∷ u .minute ∷ u .second ∷ [] in
     let short = fields-below 128 (lit≤ tt) u (i .time) (omega (arith, i .second, v .second)) in
@@ -91,7 +92,7 @@ body-length s p =
       length-append (varuints l) (fractionBytes (u .digits) c),
       offset-length (offsetOf (f .offset)) (valid-offset v),
       fields-length (fieldCount (u .precision)) (u .year) after (omega (arith, i .year)) short,
-      fraction-length (u .digits) c (omega (arith, i .digits, v .digits)) (omega (arith, div-le-self (s .attoseconds) (scale (f .digits)), v .attoseconds)),
+      fraction-length (u .digits) c (omega (arith, i .digits, v .digits)) below,
     )
 
 -- ---- the least: a byte each of a header, an offset and a year

@@ -30,6 +30,7 @@ pub const LENGTH_FOLLOWS: u8 = 0x6e;
 // The longest body.
 pub const MAX_BODY_LENGTH: usize = 18;
 
+// The room for a value.
 const MAX_TIMESTAMP_LENGTH: usize = 32;
 
 // An unknown offset is negative zero.

@@ -7,12 +7,12 @@ use native.Mathlib.Omega.{arith}
 use borrow.Author.Tests.{lt-ltb}
 use lib.Dec.{lit≤, lit<}
 use lib.IntN.{ℤ, pos, negsuc, natAbs}
-use lib.ListN.{length, take, drop, length-append}
+use lib.ListN.{length, take, length-append}
 use lib.Seq.{drop-at, drop-append-seam}
 use Rattle.places.proofs.Below.{Below, below-take}
 use Rattle.ion.specs.Numbers.VarUInt.{varuint, groupCount, readVarUInt}
 use Rattle.ion.specs.Numbers.VarInt.{signed, varint, isNegative, readVarInt}
-use Rattle.ion.specs.Numbers.Int.{int, readInt}
+use Rattle.ion.specs.Numbers.Int.{int}
 use Rattle.ion.specs.Pair.Offset.{WithinDay, offsetMinutes, rawOffset}
 use Rattle.ion.specs.Calls.Accepted.{timeIn}
 use Rattle.ion.specs.Calls.Utc.{withTime}
@@ -24,9 +24,6 @@ use Rattle.ion.specs.declared.Fields.{Fields}
 use Rattle.ion.specs.declared.Body.{Body}
 use Rattle.ion.specs.declared.offset.Offset.{Offset}
 use Rattle.ion.specs.declared.offset.Offset.the-variants.{Unknown, Known}
-use Rattle.ion.specs.declared.VarUIntRead.the-variants as uint
-use Rattle.ion.specs.declared.VarIntRead.the-variants as int
-use Rattle.ion.specs.declared.IntRead.the-variants as magnitude
 use Rattle.binary.proofs.VarUInts.{read-varuint, length-varuint, count-some}
 use Rattle.binary.proofs.VarInts.{read-signed, read-varint, length-signed, signed-some}
 use Rattle.binary.proofs.Ints.{read-int}
@@ -75,7 +72,7 @@ fields-back (suc n) (v ∷ l) r h k z =
 
 -- ---- the fraction
 
-fraction-next : (t : List ℕ) → 0 < length t → decodeFraction t ≡ fractionFrom t (readVarInt 63 t)
+pub fraction-next : (t : List ℕ) → 0 < length t → decodeFraction t ≡ fractionFrom t (readVarInt 63 t)
 unfolding decodeFraction
 fraction-next [] h = absurd (omega arith)
 fraction-next (b ∷ t) h = refl

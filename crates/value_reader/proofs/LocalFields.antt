@@ -31,7 +31,8 @@ record IsLocal (o : Offset) (u f : Fields) : Type 0 where
   offset : offsetOf (f .offset) ≡ o
   utc : utcBy o f ≡ u
 
-local-is : (o : Offset) (u : Fields) → WithinDay o → IsDateTime (timeIn u) → u .offset ≡ rawOffset 0 → 1 ≤ localBy o u .year → IsLocal o u (localBy o u)
+local-is : (o : Offset) (u : Fields) → WithinDay o → IsDateTime (timeIn u) → u .offset ≡ rawOffset 0 → 1 ≤ localBy o u .year
+    → IsLocal o u (localBy o u)
 local-is Unknown u w t e y =
     record {
       time = t;
@@ -105,6 +106,7 @@ module _ (x : Body) (p : Encodable x) (q : Acceptable x) where
   body-again =
       let l = local in
       let f = localBy (x .offset) (x .utc) in
-      let c : attosecondsFrom x / scale (f .digits) ≡ x .coefficient = rw (l .digits) (mul-div-cancel (x .coefficient) (scale-pos (x .utc .digits))) in
+      let cancel = mul-div-cancel (x .coefficient) (scale-pos (x .utc .digits)) in
+      let c : attosecondsFrom x / scale (f .digits) ≡ x .coefficient = rw (l .digits) cancel in
       let u : utcBy (offsetOf (f .offset)) f ≡ x .utc = rw (l .offset) (l .utc) in
       λ i. record { offset = l .offset i; utc = u i; coefficient = c i }

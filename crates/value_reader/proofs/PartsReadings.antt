@@ -1,6 +1,6 @@
 -- What the reader answers for a body's parts is what it answers for its bytes. Assumes nothing.
 use mathlib.Core.Path.{_≡_, refl, sym, ap, _∙_}
-use mathlib.Core.Bool.{Bool, true, false, cond, _&&_, and-eq-true-iff}
+use mathlib.Core.Bool.{Bool, true, false, cond, and-eq-true-iff}
 use mathlib.Core.List.{List}
 use mathlib.Core.Logic.{inl, inr}
 use Prim.Native.Nat.{ℕ}
@@ -10,7 +10,7 @@ use Rattle.places.proofs.Below.{Below}
 use Rattle.ion.specs.Calls.Refusal.{bodyRefused}
 use Rattle.ion.specs.Pair.Pair.{wordIn}
 use Rattle.ion.specs.Pair.Word.{fieldsOf}
-use Rattle.ion.specs.Calls.Check.{checkOf}
+use Rattle.ion.specs.Calls.Check.{checkNumber}
 use Rattle.ion.specs.Calls.Accepted.{Valid, Accepted}
 use Rattle.ion.specs.Value.Encode.{bodyFrom, bodyOf}
 use Rattle.ion.specs.Value.Decode.{found, nothing, decodeBody, pairFrom, localBy}
@@ -43,24 +43,24 @@ module _ (n : ℕ) (b : List ℕ) (x : Body) (bytes : Below 256 b) (decoded : de
     unfolding pairFrom bodyOf
     body-same =
         let w = body-is b x bytes decoded in
-        let f = localBy (x .offset) (x .utc) in
-        ap (λ (g : Fields). let y = bodyFor g (attosecondsFrom x) in bodyFrom (y .offset) (y .utc) (y .coefficient)) (unpack-pack f (valid-in-range local))
-        ∙ ap (λ (y : Body). bodyFrom (y .offset) (y .utc) (y .coefficient)) (body-again x (w .encodable) q)
+        let packed = unpack-pack (localBy (x .offset) (x .utc)) (valid-in-range local) in
+        ap (λ (y : Body). bodyFrom (y .offset) (y .utc) (y .coefficient))
+        (ap (λ (g : Fields). bodyFor g (attosecondsFrom x)) packed ∙ body-again x (w .encodable) q)
         ∙ sym (w .bytes)
 
     pub body-accepted : readBody n b ≡ acceptedReading (pairFrom x) n
     body-accepted = ap (readBody n) (sym body-same) ∙ body-read (pairFrom x) accepted n
 
-  pub body-refused : (Acceptable x → ⊥) → readBody n b ≡ refusedReading bodyRefused
+  body-refused : (Acceptable x → ⊥) → readBody n b ≡ refusedReading bodyRefused
   unfolding readBody isBodyOf
-  body-refused h = ap (takenAs n b) decoded ∙ go (eqb (checkOf (pairFrom x) .number) 0 && same (bodyOf (pairFrom x)) b) refl
+  body-refused h = ap (takenAs n b) decoded ∙ go (isBodyOf b (pairFrom x)) refl
     where
-      go : (t : Bool) → (eqb (checkOf (pairFrom x) .number) 0 && same (bodyOf (pairFrom x)) b) ≡ t
+      go : (t : Bool) → isBodyOf b (pairFrom x) ≡ t
           → cond t (acceptedReading (pairFrom x) n) (refusedReading bodyRefused) ≡ refusedReading bodyRefused
       go true e =
           let s = pairFrom x in
-          let p = and-eq-true-iff (eqb (checkOf s .number) 0) (same (bodyOf s) b) .0 e in
-          let a = check-gives s (eqb-true (checkOf s .number) 0 (p .0)) in
+          let p = and-eq-true-iff (eqb (checkNumber s) 0) (same (bodyOf s) b) .0 e in
+          let a = check-gives s (eqb-true (checkNumber s) 0 (p .0)) in
           let y = bodyFor (fieldsOf (wordIn s)) (s .attoseconds) in
           let d : found x ≡ found y = sym decoded ∙ ap decodeBody (sym (same-is (bodyOf s) b (p .1))) ∙ decode-value s a in
           let z : x ≡ y = cc in

@@ -17,13 +17,10 @@ use Rattle.value_reader.specs.BodyParts.{UtcInBounds, offsetFits}
 
 -- ---- the tests
 
-abbrev pub utcBoundsTest : Body → Bool
-utcBoundsTest x =
-    leb (x .utc .year) 10000 && leb (x .utc .hour) 23 && leb (x .utc .minute) 59 && leb (x .utc .second) 59 && leb (x .utc .digits) 18
-    && offsetFits (x .utc .precision) (x .offset)
-
 abbrev pub partsTest : Body → Bool
-partsTest x = utcBoundsTest x && ltb (x .coefficient) (10 ^ min (x .utc .digits) 18) && isDate (dateIn (x .utc))
+partsTest x =
+    leb (x .utc .year) 10000 && leb (x .utc .hour) 23 && leb (x .utc .minute) 59 && leb (x .utc .second) 59 && leb (x .utc .digits) 18
+    && offsetFits (x .utc .precision) (x .offset) && ltb (x .coefficient) (10 ^ min (x .utc .digits) 18) && isDate (dateIn (x .utc))
 
 -- ---- each with the fact that it decides
 
@@ -63,7 +60,14 @@ bounds-all x v =
 
 all-bounds : (x : Body) → All x → UtcInBounds x
 all-bounds x (((((((y, h), m), s), n), o), c), d) =
-    record { time = record { date = d; hours = omega arith; minutes = omega arith }; year = y; second = s; digits = n; coefficient = c; known-late = o }
+    record {
+      time = record { date = d; hours = omega arith; minutes = omega arith };
+      year = y;
+      second = s;
+      digits = n;
+      coefficient = c;
+      known-late = o;
+    }
 
 pub parts-decides : (x : Body) → Decides (partsTest x) (UtcInBounds x)
 parts-decides x = let d = all-decides x in (λ t. all-bounds x (d .0 t), λ v. d .1 (bounds-all x v))

@@ -1,7 +1,7 @@
 -- Whatever the reader accepts begins with the value of the timestamp that it gives, of the length that it gives. So no two timestamps
 -- share a value, and no value is the beginning of another. Assumes nothing.
 use mathlib.Core.Path.{_≡_, refl, sym, ap, _∙_}
-use mathlib.Core.Bool.{Bool, true, false, cond, _&&_, and-eq-true-iff}
+use mathlib.Core.Bool.{Bool, true, false, cond, and-eq-true-iff}
 use mathlib.Core.List.{List, [], _∷_, _++_, append-nil}
 use Prim.Native.Nat.{ℕ, suc, _+_, _-_, _≤_, _<_}
 use native.Mathlib.Omega.{arith}
@@ -10,7 +10,7 @@ use lib.Dec.{eqb, ltb}
 use lib.ListN.{length, take, drop, take-append-drop}
 use lib.Seq.{length-take-le}
 use Rattle.ion.specs.Calls.Refusal.{inputEnds, firstByteRefused, bodyRefused}
-use Rattle.ion.specs.Calls.Check.{checkOf}
+use Rattle.ion.specs.Calls.Check.{checkNumber}
 use Rattle.ion.specs.Calls.Accepted.{Accepted}
 use Rattle.ion.specs.Value.Encode.{bodyOf, header, valueOf}
 use Rattle.ion.specs.Value.Decode.{Decoded, found, nothing, decodeBody, pairFrom}
@@ -38,11 +38,11 @@ body-read-is : (n : ℕ) (b : List ℕ) → readBody n b .number ≡ 0 → BodyR
 unfolding readBody isBodyOf
 body-read-is n b e = go (decodeBody b) e
   where
-    test : (s : Timestamp) (t : Bool) → (eqb (checkOf s .number) 0 && same (bodyOf s) b) ≡ t
-        → cond t (acceptedReading s n) (refusedReading bodyRefused) .number ≡ 0 → BodyRead b n (cond t (acceptedReading s n) (refusedReading bodyRefused))
+    test : (s : Timestamp) (t : Bool) → isBodyOf b s ≡ t → cond t (acceptedReading s n) (refusedReading bodyRefused) .number ≡ 0
+        → BodyRead b n (cond t (acceptedReading s n) (refusedReading bodyRefused))
     test s true q e =
-        let p = and-eq-true-iff (eqb (checkOf s .number) 0) (same (bodyOf s) b) .0 q in
-        record { accepted = check-gives s (eqb-true (checkOf s .number) 0 (p .0)); bytes = same-is (bodyOf s) b (p .1); taken = refl }
+        let p = and-eq-true-iff (eqb (checkNumber s) 0) (same (bodyOf s) b) .0 q in
+        record { accepted = check-gives s (eqb-true (checkNumber s) 0 (p .0)); bytes = same-is (bodyOf s) b (p .1); taken = refl }
     test s false q e = no-refusal bodyRefused (omega arith) e
 
     go : (d : Decoded Body) → takenAs n b d .number ≡ 0 → BodyRead b n (takenAs n b d)
@@ -79,7 +79,8 @@ unfolding valueOf
 short-is d s r l u a =
     let n = d - 0x60 in
     let z = body-size a in
-    let h : header (length (bodyOf (r .stamp))) ≡ d ∷ [] = ap header z ∙ header-short n (omega arith) ∙ ap (λ (x : ℕ). x ∷ []) (let e : 0x60 + n ≡ d = omega arith in e) in
+    let e : 0x60 + n ≡ d = omega arith in
+    let h : header (length (bodyOf (r .stamp))) ≡ d ∷ [] = ap header z ∙ header-short n (omega arith) ∙ ap (λ (x : ℕ). x ∷ []) e in
     let t : r .taken ≡ suc n = a .body .taken ∙ (let e : 1 + n ≡ suc n = omega arith in e) in
     record {
       accepted = a .body .accepted;
@@ -92,7 +93,9 @@ unfolding valueOf
 long-is c s r l u a =
     let n = c - 0x80 in
     let z = body-size a in
-    let h : header (length (bodyOf (r .stamp))) ≡ 0x6e ∷ c ∷ [] = ap header z ∙ header-long n (omega arith) (omega arith) ∙ ap (λ (x : ℕ). 0x6e ∷ x ∷ []) (let e : 0x80 + n ≡ c = omega arith in e) in
+    let e : 0x80 + n ≡ c = omega arith in
+    let h : header (length (bodyOf (r .stamp))) ≡ 0x6e ∷ c ∷ [] =
+    ap header z ∙ header-long n (omega arith) (omega arith) ∙ ap (λ (x : ℕ). 0x6e ∷ x ∷ []) e in
     let t : r .taken ≡ suc (suc n) = a .body .taken ∙ (let e : 2 + n ≡ suc (suc n) = omega arith in e) in
     record {
       accepted = a .body .accepted;

@@ -54,7 +54,8 @@ module _ (s : Timestamp) (p : Accepted s) where
   after-back : (k n : ℕ) (r : List ℕ) → n ≡ length (bodyOf s) → readAfter k n (bodyOf s ++ r) ≡ acceptedReading s (k + n)
   unfolding readAfter
   after-back k n r e =
-      rw (le-ltb (length (bodyOf s ++ r)) n (omega (arith, e, length-append (bodyOf s) r)), take-at (bodyOf s) r n (sym e)) (body-read (k + n))
+      let room = le-ltb (length (bodyOf s ++ r)) n (omega (arith, length-append (bodyOf s) r)) in
+      rw (room, take-at (bodyOf s) r n (sym e)) (body-read (k + n))
 
   short-back : (r : List ℕ) → length (bodyOf s) ≤ 13 → readValue (valueOf s ++ r) ≡ acceptedReading s (length (valueOf s))
   unfolding readValue valueOf

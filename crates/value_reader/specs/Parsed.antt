@@ -12,10 +12,12 @@ use Rattle.value_reader.specs.declared.decoder.FieldsRead.{FieldsRead}
 use Rattle.value_reader.specs.declared.decoder.FractionRead.{FractionRead}
 use Rattle.value_reader.specs.declared.decoder.FractionRead.the-variants as fraction
 
+-- the parts
 abbrev pub bodyIn : BodyRead → Decoded Body
 bodyIn (body.Parts x) = found x
 bodyIn body.Nothing = nothing
 
+-- the digits and the coefficient
 abbrev pub fractionIn : FractionRead → Decoded (ℕ × ℕ)
 fractionIn (fraction.Parts d c) = found (d, c)
 fractionIn fraction.Nothing = nothing

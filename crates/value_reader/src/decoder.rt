@@ -15,7 +15,8 @@ ghost use mathlib.Core.Bool.{false};
 ghost use Prim.Native.Nat.{_≤_};
 ghost use lib.ListN.{length, drop};
 ghost use Rattle.ion.specs.Numbers.Int.{readInt};
-ghost use Rattle.ion.specs.Value.Decode.{signedOffset, coefficientFrom, decodeFields, decodeFraction, firstValues, fieldsFrom, precisionWith, afterOffset, decodeBody};
+ghost use Rattle.ion.specs.Value.Decode.{signedOffset, coefficientFrom, decodeFields, decodeFraction, firstValues};
+ghost use Rattle.ion.specs.Value.Decode.{fieldsFrom, precisionWith, afterOffset, decodeBody};
 ghost use Rattle.value_reader.specs.Parsed.{FieldsAre, fractionIn, bodyIn};
 
 // The parts of a body, or that the bytes are none.

@@ -27,6 +27,7 @@ const MIN_LENGTH: u8 = END_FLAG + MAX_INLINE_LENGTH as u8 + 1;
 
 const MAX_LENGTH: u8 = END_FLAG + MAX_BODY_LENGTH as u8;
 
+// The answer of a refusal.
 fn refused(number: u32) -> Read
     ensures { λ r. ⌜ r ≡ refusedReading number ⌝ }
 {
@@ -55,22 +56,19 @@ fn utc_in_bounds(x: Body) -> bool
     ensures { λ r. ⌜ (r ≡ true → UtcInBounds x) × (UtcInBounds x → r ≡ true) ⌝ }
 {
     let o = x.offset;
-    let bounds = (x.utc.year <= 10000)
-        & (x.utc.hour <= 23)
-        & (x.utc.minute <= 59)
-        & (x.utc.second <= 59)
-        & (x.utc.digits <= 18);
-    if !(bounds & offset_fits(x.utc.precision, o)) {
-        return false;
-    }
-    if fraction::power(x.utc.digits as u64) <= x.coefficient {
-        return false;
-    }
-    calendar::is_date(Date {
+    let date = Date {
         year: x.utc.year,
         month: x.utc.month,
         day: x.utc.day,
-    })
+    };
+    (x.utc.year <= 10000)
+        & (x.utc.hour <= 23)
+        & (x.utc.minute <= 59)
+        & (x.utc.second <= 59)
+        & (x.utc.digits <= 18)
+        & offset_fits(x.utc.precision, o)
+        & (x.coefficient < fraction::power(x.utc.digits as u64))
+        & calendar::is_date(date)
 }
 
 // The local fields of parts.

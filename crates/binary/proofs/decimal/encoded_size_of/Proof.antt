@@ -25,7 +25,8 @@ add-result c =
     let e = c .before in
     let p = e .before .before .before in
     let m = signed-u64 (p .parts-of .result .magnitude) (omega (arith, p .parts-of .ok)) in
-    omega (arith, int-most (p .before .args .coefficient) (p .before .fits .coefficient .fits), e .encoded-size-of .ensures, c .encoded-size-of2 .ensures)
+    let n = int-most (p .before .args .coefficient) (p .before .fits .coefficient .fits) in
+    omega (arith, e .encoded-size-of .ensures, c .encoded-size-of2 .ensures)
 
 returns-2 : tie.Need-returns-2
 returns-2 c =
@@ -33,7 +34,8 @@ returns-2 c =
     let z = e .before .before in
     let p = z .before in
     let a = p .before .args in
-    omega (arith, length-some (a .coefficient) (a .exponent) (size p) (sym (z .is-zero .ensures) ∙ e .before .if1 .left), e .encoded-size-of .ensures, c .encoded-size-of2 .ensures)
+    let n = length-some (a .coefficient) (a .exponent) (size p) (sym (z .is-zero .ensures) ∙ e .before .if1 .left) in
+    omega (arith, n, e .encoded-size-of .ensures, c .encoded-size-of2 .ensures)
 
 pub encoded-size-of-spec : {M : Type 1} → statement M
 encoded-size-of-spec =

@@ -63,7 +63,8 @@ add-v c = omega (arith, c .shared-slice-known2 .given (c .before .before .before
 loop-again : tie.Need-loop-again Inv-loop μ-loop
 loop-again c =
     let t = c .before .before in
-    (omega (arith, c .shared-slice-known2 .given (c .before .before .before .loop .i)), search needs, rw (add-one (t .before .loop .i)) (turn t))
+    let i = t .before .loop .i in
+    (omega (arith, c .shared-slice-known2 .given i), search needs, rw (add-one i) (turn t))
 
 returns-3 : tie.Need-returns-3 Inv-loop μ-loop
 returns-3 c =

@@ -38,7 +38,8 @@ sub-t4 : tie.Need-sub-t4
 sub-t4 c =
     let f = c .before .fits .value in
     let g = nearer-fits w64 (value c) f (below c) in
-    simp toZ-ofZ (natural-fits w64 (nearer-is (value c) (below c)) (omega (arith, size-most w64 (value c) f, size-some (value c) (below c))))
+    let n = size-some (value c) (below c) in
+    simp toZ-ofZ (natural-fits w64 (nearer-is (value c) (below c)) (omega (arith, n, size-most w64 (value c) f)))
 
 cast-t5 : tie.Need-cast-t5
 cast-t5 c =
@@ -65,7 +66,8 @@ cast-t7 : tie.Need-cast-t7
 cast-t7 c =
     let f = c .before .fits .value in
     let h = c .if1 .left in
-    simp toZ-ofZ (may-cast w64 (itself-is (c .before .args .value) (simp toZ-ofZ at h)) (omega (arith, size-most w64 (c .before .args .value) f)))
+    let z = c .before .args .value in
+    simp toZ-ofZ (may-cast w64 (itself-is z (simp toZ-ofZ at h)) (omega (arith, size-most w64 z f)))
 
 returns-2 : tie.Need-returns-2
 returns-2 c =

@@ -31,7 +31,8 @@ with-sign : (c : tie.Then1) →
     let g = c .before .before .before in
     let a = g .before .before .before .args in
     let x = g .put-groups .last .0 in
-    (a .at < length x) × (getD x (a .at) 0 < 192) × (set x (a .at) (getD x (a .at) 0 + 64) ≡ over (a .buf .now) (a .at) (signed true (a .p .magnitude)))
+    (a .at < length x) × (getD x (a .at) 0 < 192)
+    × (set x (a .at) (getD x (a .at) 0 + 64) ≡ over (a .buf .now) (a .at) (signed true (a .p .magnitude)))
 with-sign c =
     let g = c .before .before .before in
     let a = g .before .before .before .args in

@@ -52,9 +52,10 @@ whole c =
     let k = e .before in
     let a = k .before .before .before .args in
     let i = getD (a .s .now) (a .at) 0 in
+    let scan = ap₂ (λ (x y : ℕ). scanFrom (a .limit) (x - 1) (i % 64) 1 (drop y (a .s .now))) n (add-one (a .at)) in
     begins (k .before)
     ∙ read-first (a .limit) i (drop (suc (a .at)) (a .s .now)) (e .if2 .left)
-    ∙ ap (ifShortest (leb 64 (i % 128))) (sym (c .read-groups .ensures ∙ ap₂ (λ (x y : ℕ). scanFrom (a .limit) (x - 1) (i % 64) 1 (drop y (a .s .now))) n (add-one (a .at))))
+    ∙ ap (ifShortest (leb 64 (i % 128))) (sym (c .read-groups .ensures ∙ scan))
 
 returns-2 : tie.Need-returns-2
 returns-2 c = numbered varIntAnswer (sym (alone (c .before) ∙ rw (lt-ltb _ _ (c .if3 .taken))))

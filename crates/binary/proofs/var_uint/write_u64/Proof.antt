@@ -23,7 +23,8 @@ returns-2 : tie.Need-returns-2
 returns-2 c =
     let p = c .before .before in
     let r = p .before .before .before .before in
-    asked-written (asked r) (p .before .before .if1 .left) (p .put-groups .ensures) (groups-varuint _ _ (r .before .encoded-size-of .ensures))
+    let bytes = groups-varuint _ _ (r .before .encoded-size-of .ensures) in
+    asked-written (asked r) (p .before .before .if1 .left) (p .put-groups .ensures) bytes
 
 pub write-u64-spec : {M : Type 1} → statement M
 write-u64-spec =

@@ -18,13 +18,16 @@ returns-2 : tie.Need-returns-2
 returns-2 c =
     let a = c .before .before .args in
     let s = a .s .now in
-    sym (ap zeroFirst (drop-cons s (a .at) 0 (omega arith) ∙ ap (λ r. getD s (a .at) 0 ∷ r) (drop-of-length-le s {i = suc (a .at)} (omega arith))))
+    let none = drop-of-length-le s {i = suc (a .at)} (omega arith) in
+    sym (ap zeroFirst (drop-cons s (a .at) 0 (omega arith) ∙ ap (λ r. getD s (a .at) 0 ∷ r) none))
 
 returns-3 : tie.Need-returns-3
 returns-3 c =
     let a = c .before .before .before .args in
     let s = a .s .now in
-    sym (ap zeroFirst (drop-cons s (a .at) 0 (omega arith)) ∙ first-of-two (getD s (a .at) 0) (drop (suc (a .at)) s) (omega (arith, length-drop (suc (a .at)) s, c .before .if2 .left)))
+    let t = drop (suc (a .at)) s in
+    sym (ap zeroFirst (drop-cons s (a .at) 0 (omega arith))
+    ∙ first-of-two (getD s (a .at) 0) t (omega (arith, length-drop (suc (a .at)) s, c .before .if2 .left)))
 
 pub zero-first-spec : {M : Type 1} → statement M
 zero-first-spec = tie.close (tie.spec returns (λ c. search needs) returns-2 (λ c. search needs) returns-3)

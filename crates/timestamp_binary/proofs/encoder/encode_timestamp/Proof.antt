@@ -35,7 +35,8 @@ put-body-requires c κs =
 inside : (c : tie.After-put-body) → c .put-body .result ≤ length (c .put-body .last .0)
 inside c = let e = c .before .before in omega (arith, c .put-body .ensures .next, c .put-body .kept .0, body-length _ (accepted e))
 
-front : (c : tie.After-put-body) → take (c .put-body .result) (c .put-body .last .0) ≡ bodyOf (c .before .before .before .before .before .args .s)
+front : (c : tie.After-put-body) →
+    take (c .put-body .result) (c .put-body .last .0) ≡ bodyOf (c .before .before .before .before .before .args .s)
 front c = run-front (c .put-body .ensures) (lit≤ tt)
 
 array-share-prefix-bytes : tie.Need-array-share-prefix-bytes

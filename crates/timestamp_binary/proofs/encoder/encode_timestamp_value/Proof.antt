@@ -41,7 +41,8 @@ most c = omega (arith, c .put-body .ensures .next, body-length _ (accepted (c .b
 inside : (c : tie.After-put-body) → c .put-body .result ≤ length (c .put-body .last .0)
 inside c = omega (arith, most c, c .put-body .kept .0)
 
-front : (c : tie.After-put-body) → take (c .put-body .result) (c .put-body .last .0) ≡ 0 ∷ 0 ∷ bodyOf (c .before .before .before .before .before .args .s)
+front : (c : tie.After-put-body) →
+    take (c .put-body .result) (c .put-body .last .0) ≡ 0 ∷ 0 ∷ bodyOf (c .before .before .before .before .before .args .s)
 front c = run-front (c .put-body .ensures) (lit≤ tt)
 
 -- ---- a body of 13 bytes at most
@@ -54,10 +55,8 @@ returns-2 c =
     let p = c .before .before in
     let i = p .before .before .before .before in
     let k = i .before .before in
-    let e = k .before .before in
-    passed-writing _ _ _ _ (passed e)
-    (rw (← stored-short (e .before .before .before .args .s) (k .put-body .last .0) (k .put-body .result) (front k) (inside k) (omega (arith, i .if2 .taken)))
-    (p .put-bytes .ensures))
+    let stored = stored-short _ (k .put-body .last .0) (k .put-body .result) (front k) (inside k) (omega (arith, i .if2 .taken)) in
+    passed-writing _ _ _ _ (passed (k .before .before)) (rw (← stored) (p .put-bytes .ensures))
 
 -- ---- a longer one
 
@@ -78,10 +77,9 @@ returns-3 c =
     let p = c .before .before in
     let i = p .before .before .before in
     let k = i .before .before in
-    let e = k .before .before in
-    passed-writing _ _ _ _ (passed e)
-    (rw (← stored-long (e .before .before .before .args .s) (k .put-body .last .0) (k .put-body .result) (front k) (inside k) (omega (arith, i .if2 .left)) (omega (arith, most k)))
-    (p .put-bytes2 .ensures))
+    let end = k .put-body .result in
+    let stored = stored-long _ (k .put-body .last .0) end (front k) (inside k) (omega (arith, i .if2 .left)) (omega (arith, most k)) in
+    passed-writing _ _ _ _ (passed (k .before .before)) (rw (← stored) (p .put-bytes2 .ensures))
 
 pub encode-timestamp-value-spec : {M : Type 1} → statement M
 encode-timestamp-value-spec =

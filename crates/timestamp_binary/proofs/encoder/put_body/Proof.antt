@@ -48,13 +48,18 @@ third c =
 
 parts : (c : tie.After-field-count) → first c ++ (second c ++ third c) ≡ bodyOf (c .before .before .before .before .before .args .s)
 parts c =
-    let u = c .before .before .before in
+    let o = c .before in
+    let g = o .before in
+    let u = g .before in
     let s = u .before .before in
-    ap₂ (λ (o : Offset) (n : ℕ). offsetBytes o ++ (varuints (take n (fieldList (c .before .before .utc-fields .result))) ++ third c)) (c .before .offset-of .ensures) (c .field-count .ensures)
-    ∙ sym (body-parts (s .args .s) (s .pre .0) (u .unpack .ensures) (c .before .before .utc-fields .ensures))
+    let fields = fieldList (g .utc-fields .result) in
+    ap₂ (λ (x : Offset) (n : ℕ). offsetBytes x ++ (varuints (take n fields) ++ third c)) (o .offset-of .ensures) (c .field-count .ensures)
+    ∙ sym (body-parts (s .args .s) (s .pre .0) (u .unpack .ensures) (g .utc-fields .ensures))
 
 -- have room one after another
-room : (c : tie.After-field-count) → let a = c .before .before .before .before .before .args in a .at + (length (first c) + (length (second c) + length (third c))) ≤ length (a .buf .now)
+room : (c : tie.After-field-count) →
+    let a = c .before .before .before .before .before .args in
+    a .at + (length (first c) + (length (second c) + length (third c))) ≤ length (a .buf .now)
 room c =
     let s = c .before .before .before .before .before in
     omega (arith, ap length (parts c), length-append (first c) (second c ++ third c), length-append (second c) (third c), s .pre .1)
@@ -73,8 +78,10 @@ count-most p h = go (leb 3 p)
 put-fields-requires : tie.Need-put-fields-requires
 put-fields-requires c κs =
     let o = c .before .before .before in
-    let k = o .before .before in
-    (omega (arith, k .field-count .ensures, count-most _ (local (k .before .before .before) .precision)), omega (arith, room k, o .put-offset .ensures .next))
+    let k = o .before .before in (
+      omega (arith, k .field-count .ensures, count-most _ (local (k .before .before .before) .precision)),
+      omega (arith, room k, o .put-offset .ensures .next),
+    )
 
 put-fraction-requires : tie.Need-put-fraction-requires
 put-fraction-requires c κs =
@@ -90,8 +97,11 @@ returns c =
     let o = w .before .before .before .before in
     let k = o .before .before in
     let b = k .before .before .before .before .before .args .buf .now in
-    let l : r .put-fraction .result ≤ length b = omega (arith, room k, o .put-offset .ensures .next, w .put-fields .ensures .next, r .put-fraction .ensures .next) in
-    run-is (run-two (o .put-offset .ensures) (run-two (w .put-fields .ensures) (r .put-fraction .ensures) (omega (arith, l, o .put-offset .kept .0))) l) (parts k)
+    let x = o .put-offset .ensures in
+    let y = w .put-fields .ensures in
+    let z = r .put-fraction .ensures in
+    let l : r .put-fraction .result ≤ length b = omega (arith, room k, x .next, y .next, z .next) in
+    run-is (run-two x (run-two y z (omega (arith, l, o .put-offset .kept .0))) l) (parts k)
 
 pub put-body-spec : {M : Type 1} → statement M
 put-body-spec =

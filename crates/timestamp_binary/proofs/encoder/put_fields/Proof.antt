@@ -47,11 +47,12 @@ loop-again c =
     let a = t .before .before .before .args in
     let wide : length (a .t3) ≡ 6 = search needs in
     let w = p .put-u64 .ensures in
+    let v = l .inv .2 in
+    let size = length-varuint (getD (a .t3) (l .i) 0) in
     let h : l .i < length (a .t3) = omega (arith, t .loop-test .taken, t .before .before .before .pre .0) in (
       omega arith,
       omega (arith, p .put-u64 .kept .0, l .inv .1),
-      rw (varuints-more (a .t3) (l .i) h)
-          (run-two (l .inv .2) w (omega (arith, w .next, length-varuint (getD (a .t3) (l .i) 0), fits t, l .inv .2 .next, t .before .before .before .pre .1))),
+      rw (varuints-more (a .t3) (l .i) h) (run-two v w (omega (arith, w .next, size, fits t, v .next, t .before .before .before .pre .1))),
     )
 
 returns : tie.Need-returns Inv-loop μ-loop

@@ -35,8 +35,10 @@ sub-put-decimal c =
     simp (toZ-pos w64) (minus-fits w64 _ h)
 
 -- what is written is the fraction
-bytes : (c : tie.After-scale)
-    → let a = c .before .before .before .args in decimalBytes (a .attoseconds / c .scale .result) (pos 0 -ℤ pos (a .digits)) ≡ fractionBytes (a .digits) (a .attoseconds / scale (a .digits))
+bytes : (c : tie.After-scale) →
+    let a = c .before .before .before .args in
+    decimalBytes (a .attoseconds / c .scale .result) (pos 0 -ℤ pos (a .digits))
+    ≡ fractionBytes (a .digits) (a .attoseconds / scale (a .digits))
 bytes c =
     let a = c .before .before .before .args in
     ap (λ (k : ℕ). decimalBytes (a .attoseconds / k) (pos 0 -ℤ pos (a .digits))) (c .scale .ensures)
@@ -55,7 +57,9 @@ returns-2 c =
     let a = k .before .before .before .args in
     let h = small k in
     let f = minus-fits w64 (a .digits) h in
-    let g : Run (a .buf .now) (a .at) (decimalBytes (a .attoseconds / k .scale .result) (pos 0 -ℤ pos (a .digits))) (p .put-decimal .last .0) (p .put-decimal .result) = simp (toZ-ofZ, toZ-pos w64) at (p .put-decimal .ensures) in
+    let s = decimalBytes (a .attoseconds / k .scale .result) (pos 0 -ℤ pos (a .digits)) in
+    let g : Run (a .buf .now) (a .at) s (p .put-decimal .last .0) (p .put-decimal .result) =
+    simp (toZ-ofZ, toZ-pos w64) at (p .put-decimal .ensures) in
     run-is g (bytes k)
 
 pub put-fraction-spec : {M : Type 1} → statement M

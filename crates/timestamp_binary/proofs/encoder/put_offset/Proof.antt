@@ -39,10 +39,12 @@ returns c =
 
 -- ---- known: the minutes keep their value in 64 bits
 
-known : (o : Offset) (z : ℤ) {m : OffsetMinutes} → o ≡ Known m → z ≡ m .0 → (signedCount (natAbs z) ≡ length (offsetBytes o)) × (varint z ≡ offsetBytes o)
+known : (o : Offset) (z : ℤ) {m : OffsetMinutes} → o ≡ Known m → z ≡ m .0
+    → (signedCount (natAbs z) ≡ length (offsetBytes o)) × (varint z ≡ offsetBytes o)
 unfolding offsetBytes varint
 known o z {m} e f =
-    let g : signed (isNegative z) (natAbs z) ≡ offsetBytes o = ap (λ (x : ℤ). signed (isNegative x) (natAbs x)) f ∙ sym (ap offsetBytes e) in
+    let g : signed (isNegative z) (natAbs z) ≡ offsetBytes o =
+    ap (λ (x : ℤ). signed (isNegative x) (natAbs x)) f ∙ sym (ap offsetBytes e) in
     (sym (length-signed (isNegative z) (natAbs z)) ∙ ap length g, g)
 
 cast-put-i64 : tie.Need-cast-put-i64
@@ -66,7 +68,8 @@ returns-2 c =
     let a = k .before .before .before .args in
     let f : SFits w32 (m .minutes .result) = sfits-of (m .minutes .ok) in
     let g : SFits w64 (m .minutes .result) = sfits-widen tt f in
-    let r : Run (a .buf .now) (a .at) (varint (m .minutes .result)) (p .put-i64 .last .0) (p .put-i64 .result) = simp toZ-ofZ at (p .put-i64 .ensures) in
+    let r : Run (a .buf .now) (a .at) (varint (m .minutes .result)) (p .put-i64 .last .0) (p .put-i64 .result) =
+    simp toZ-ofZ at (p .put-i64 .ensures) in
     run-is r (known (a .o) (m .minutes .result) (k .o .given .1) (m .minutes .ensures) .1)
 
 pub put-offset-spec : {M : Type 1} → statement M

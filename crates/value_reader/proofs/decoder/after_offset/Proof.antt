@@ -20,7 +20,8 @@ whole : (c : tie.After-read-fraction) →
     let f = c .before .before .before .before .before .before in
     let a = f .before .before .args in
     let r = f .read-fields .result in
-    afterOffset (a .offset) (decodeFields 6 (drop (a .at) (a .s .now))) ≡ afterFields (a .offset) (take (r .count) (r .values)) (fractionIn (c .read-fraction .result))
+    afterOffset (a .offset) (decodeFields 6 (drop (a .at) (a .s .now)))
+    ≡ afterFields (a .offset) (take (r .count) (r .values)) (fractionIn (c .read-fraction .result))
 whole c =
     let f = c .before .before .before .before .before .before in
     let a = f .before .before .args in
@@ -43,8 +44,9 @@ returns-3 : tie.Need-returns-3
 returns-3 c =
     let r = c .before .before in
     let f = r .before .before .before .before .before .before in
+    let o = f .before .before .args .offset in
     let l = f .read-fields .result in
-    sym (whole r ∙ ap (λ x. afterFields (f .before .before .args .offset) (take (l .count) (l .values)) (fractionIn x)) (c .enum-told .given .1))
+    sym (whole r ∙ ap (λ x. afterFields o (take (l .count) (l .values)) (fractionIn x)) (c .enum-told .given .1))
 
 pub after-offset-spec : {M : Type 1} → statement M
 after-offset-spec =

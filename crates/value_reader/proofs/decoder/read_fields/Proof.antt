@@ -70,10 +70,14 @@ none c g e f =
     passed-bad (t .before .loop .inv) g (t .loop-test .taken) (sym (c .read-u64 .ensures .0) ∙ e) f
 
 returns : tie.Need-returns Inv-loop μ-loop
-returns c = fields-none _ _ _ (none (c .before .before .before) _ (c .before .enum-told .given .1) (λ f u. refl)) (c .no-fields .ensures)
+returns c =
+    let t = c .before in
+    fields-none _ _ _ (none (t .before .before) _ (t .enum-told .given .1) (λ f u. refl)) (c .no-fields .ensures)
 
 returns-2 : tie.Need-returns-2 Inv-loop μ-loop
-returns-2 c = fields-none _ _ _ (none (c .before .before .before) _ (c .before .enum-told2 .given .1) (λ f u. refl)) (c .no-fields2 .ensures)
+returns-2 c =
+    let t = c .before in
+    fields-none _ _ _ (none (t .before .before) _ (t .enum-told2 .given .1) (λ f u. refl)) (c .no-fields2 .ensures)
 
 returns-3 : tie.Need-returns-3 Inv-loop μ-loop
 returns-3 c = passed-all (c .before .loop .inv) (c .loop-test .left)

@@ -1,17 +1,17 @@
 -- `decoder::read_fraction` meets its contract. Assumes nothing.
 use borrow.Author.Needs.{needs}
-use mathlib.Core.Path.{_≡_, refl, sym, ap, ap₂, _∙_}
+use mathlib.Core.Path.{_≡_, sym, ap, ap₂, _∙_}
 use mathlib.Core.Bool.{Bool, cond}
-use mathlib.Core.List.{List, [], _∷_}
-use Prim.Native.Nat.{ℕ, _+_, _≤_, _<_}
+use mathlib.Core.List.{List, []}
+use Prim.Native.Nat.{ℕ, _+_, _≤_}
 use native.Mathlib.Omega.{arith}
 use lib.ListN.{length, drop, length-drop, drop-of-length-le}
 use lib.Seq.{drop-drop}
 use Rattle.places.proofs.Below.{below-drop}
-use Rattle.ion.specs.Numbers.VarInt.{readVarInt}
 use Rattle.ion.specs.Numbers.Int.{readInt}
 use Rattle.ion.specs.Value.Decode.{nothing, coefficientFrom, fractionFrom, decodeFraction}
 use Rattle.binary.proofs.VarInts.{read-signed-is, read-signed-within}
+use Rattle.value_reader.proofs.DecodeBack.{fraction-next}
 use Rattle.value_reader.proofs.decoder.read_fraction.Statement.{statement}
 use Rattle.value_reader.proofs.decoder.read_fraction.Tie as tie
 
@@ -22,6 +22,7 @@ returns c =
     let e : drop (a .at) (a .s .now) ≡ [] = drop-of-length-le (a .s .now) (c .if1 .taken) in
     sym (ap decodeFraction e)
 
+-- the exponent is within its bounds, and within the bytes
 found : (c : tie.After-negative) →
     let r = c .before .before in
     let a = r .before .before .before .args in
@@ -32,22 +33,20 @@ found c =
     let a = b .before .args in
     let e = sym (r .read-i64 .ensures .0) ∙ c .negative .given .1 in
     let g = b .shared-slice-known .given in
-    let t = drop (a .at) (a .s .now) in
-    (read-signed-is 63 t _ _ _ (below-drop 256 (a .at) (a .s .now) (λ i. g i .fits)) e .0, omega (arith, read-signed-within 63 t _ _ _ e, length-drop (a .at) (a .s .now), r .before .if1 .left))
+    let t = drop (a .at) (a .s .now) in (
+      read-signed-is 63 t _ _ _ (below-drop 256 (a .at) (a .s .now) (λ i. g i .fits)) e .0,
+      omega (arith, read-signed-within 63 t _ _ _ e, length-drop (a .at) (a .s .now), r .before .if1 .left),
+    )
 
--- there are bytes
-some : (t : List ℕ) → 0 < length t → decodeFraction t ≡ fractionFrom t (readVarInt 63 t)
-unfolding decodeFraction
-some [] h = absurd (omega arith)
-some (b ∷ t) h = refl
-
+-- what the exponent makes of the bytes
 whole : (c : tie.After-read-i64) →
     let a = c .before .before .before .args in
     decodeFraction (drop (a .at) (a .s .now)) ≡ fractionFrom (drop (a .at) (a .s .now)) (c .read-i64 .result)
 whole c =
     let a = c .before .before .before .args in
-    some (drop (a .at) (a .s .now)) (omega (arith, length-drop (a .at) (a .s .now), c .before .if1 .left))
-    ∙ ap (fractionFrom (drop (a .at) (a .s .now))) (sym (c .read-i64 .ensures .0))
+    let t = drop (a .at) (a .s .now) in
+    fraction-next t (omega (arith, length-drop (a .at) (a .s .now), c .before .if1 .left))
+    ∙ ap (fractionFrom t) (sym (c .read-i64 .ensures .0))
 
 add-read-coefficient : tie.Need-add-read-coefficient
 add-read-coefficient c = omega (arith, found (c .before .before) .1)
@@ -63,10 +62,12 @@ returns-2 c =
     let k = c .before .before .before in
     let r = k .before .before in
     let a = r .before .before .before .args in
+    let m = k .negative .given .0 .1 .0 in
     let n = k .negative .given .0 .1 .1 .0 in
+    let after = drop-drop n (a .at) (a .s .now) in
     c .read-coefficient .ensures
     ∙ sym (whole r ∙ ap (fractionFrom (drop (a .at) (a .s .now))) (k .negative .given .1)
-    ∙ ap₂ (λ (b : Bool) (t : List ℕ). cond b (coefficientFrom (k .negative .given .0 .1 .0) (readInt t)) nothing) (c .before .if2 .taken) (drop-drop n (a .at) (a .s .now)))
+    ∙ ap₂ (λ (b : Bool) (t : List ℕ). cond b (coefficientFrom m (readInt t)) nothing) (c .before .if2 .taken) after)
 
 returns-3 : tie.Need-returns-3
 returns-3 c =

@@ -12,7 +12,8 @@ use Rattle.value_reader.proofs.reader.read_after.Tie as tie
 returns : tie.Need-returns
 returns c =
     let a = c .before .before .before .args in
-    c .refused .ensures ∙ sym (after-short (a .at) (a .n) (drop (a .at) (a .s .now)) (omega (arith, length-drop (a .at) (a .s .now), c .before .if1 .taken)))
+    let t = drop (a .at) (a .s .now) in
+    c .refused .ensures ∙ sym (after-short (a .at) (a .n) t (omega (arith, length-drop (a .at) (a .s .now), c .before .if1 .taken)))
 
 returns-2 : tie.Need-returns-2
 returns-2 c =

@@ -25,7 +25,8 @@ returns : tie.Need-returns
 returns c =
     let k = c .before .before in
     let b = k .before .before .before in
-    parts-read (b .before .args .taken) (b .before .args .b .now) (k .x .given .0 .0) (bytes b) (decoded k) (c .read-parts .result) (c .read-parts .ensures)
+    let a = b .before .args in
+    parts-read (a .taken) (a .b .now) (k .x .given .0 .0) (bytes b) (decoded k) (c .read-parts .result) (c .read-parts .ensures)
 
 returns-2 : tie.Need-returns-2
 returns-2 c =

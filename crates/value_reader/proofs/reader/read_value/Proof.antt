@@ -25,7 +25,9 @@ returns-2 : tie.Need-returns-2
 returns-2 c = c .refused2 .ensures ∙ sym (ap readValue (byte (c .before .before .before)) ∙ first-outside _ _ (c .before .if2 .taken))
 
 returns-3 : tie.Need-returns-3
-returns-3 c = c .read-length .ensures ∙ sym (ap readValue (byte (c .before .before .before .before)) ∙ first-long _ _ (c .before .if3 .taken))
+returns-3 c =
+    let t = c .before in
+    c .read-length .ensures ∙ sym (ap readValue (byte (t .before .before .before)) ∙ first-long _ _ (t .if3 .taken))
 
 within : (c : tie.Else2) → let b = getD (c .before .before .before .before .args .s .now) 0 0 in (0x60 ≤ b) × (b ≤ 0x6e)
 within c = outside-false 0x60 0x6e (getD (c .before .before .before .before .args .s .now) 0 0) (c .if2 .left)
