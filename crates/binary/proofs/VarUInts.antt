@@ -35,8 +35,8 @@ unfolding varuint
 groups-varuint m n e = ap (λ (k : ℕ). groups k m) e
 
 -- ten groups hold 64 bits
-pub count-u64 : (m : ℕ) → m < 2 ^ 64 → groupCount m ≤ 10
-count-u64 m h = count-shortest 9 m (omega arith)
+pub groups-u64 : (m : ℕ) → m < 2 ^ 64 → groupCount m ≤ 10
+groups-u64 m h = count-shortest 9 m (omega arith)
 
 -- ---- a first byte 0 is that of a number that fewer groups hold
 
@@ -66,13 +66,13 @@ marked-first b [] h = refl
 marked-first b (c ∷ r) h = ne-eqb b 0 (λ e. omega arith)
 
 -- so it is that of a form with more groups than the shortest
-pub padded : (n m : ℕ) (r : List ℕ) → 0 < n → m < 128 ^ n → zeroFirst (groups n m ++ r) ≡ ltb (groupCount m) n
-padded zero m r z h = absurd (omega arith)
-padded (suc zero) m r z h =
+pub zero-first-padded : (n m : ℕ) (r : List ℕ) → 0 < n → m < 128 ^ n → zeroFirst (groups n m ++ r) ≡ ltb (groupCount m) n
+zero-first-padded zero m r z h = absurd (omega arith)
+zero-first-padded (suc zero) m r z h =
     ap (λ (s : List ℕ). zeroFirst (s ++ r)) (groups-one m)
     ∙ marked-first (128 + m % 128) r (omega arith)
     ∙ sym (le-ltb (groupCount m) 1 (count-some m))
-padded (suc (suc n)) m r z h = zero-first n m r h ∙ go (decLt m (128 ^ suc n))
+zero-first-padded (suc (suc n)) m r z h = zero-first n m r h ∙ go (decLt m (128 ^ suc n))
   where
     go : Dec (m < 128 ^ suc n) → ltb m (128 ^ suc n) ≡ ltb (groupCount m) (suc (suc n))
     go (yes l) =
@@ -97,7 +97,7 @@ unfolding readVarUInt varuint
 read-varuint l m r h =
     let n = groupCount m in
     let k = held 128 (lit< tt) m in
-    rw (padded n m r (count-some m) k, le-ltb n n (omega arith))
+    rw (zero-first-padded n m r (count-some m) k, le-ltb n n (omega arith))
     (scan-groups l (groupCount l) n m r (count-some m) (place-monotone 128 (lit< tt) m l h) k ∙ rw (le-ltb l m h))
 
 -- ---- and whatever is read is the shortest form of what is found
@@ -111,16 +111,16 @@ opened l s m j e = go (zeroFirst s) refl e
     go true f e = absurd (let z : _≡_ {A = ℕ} 0 1 = cc in omega arith)
     go false f e = (f, scan-gives l (groupCount l) 0 0 s m j e)
 
-pub read-is : (l : ℕ) (s : List ℕ) (m j : ℕ) → Below 256 s → readVarUInt l s ≡ Value m j
+pub read-varuint-is : (l : ℕ) (s : List ℕ) (m j : ℕ) → Below 256 s → readVarUInt l s ≡ Value m j
     → (m ≤ l) × (j ≡ groupCount m) × (s ≡ varuint m ++ drop j s)
 unfolding varuint placesOn
-read-is l s m j g e =
+read-varuint-is l s m j g e =
     let o = opened l s m j e in
     let f = o .1 in
     let h = f .held (lit< tt) in
     let z : j - 0 ≡ j = omega arith in
     let b : s ≡ groups j m ++ drop j s = rw z at (f .bytes g) in
-    let u : ltb (groupCount m) j ≡ false = sym (padded j m (drop j s) (f .some) h) ∙ ap zeroFirst (sym b) ∙ o .0 in
+    let u : ltb (groupCount m) j ≡ false = sym (zero-first-padded j m (drop j s) (f .some) h) ∙ ap zeroFirst (sym b) ∙ o .0 in
     let n : j ≡ groupCount m = omega (arith, ltb-false (groupCount m) j u, fewest 128 (lit< tt) j m (f .some) h) in
     (f .limited, n, b ∙ ap (λ (k : ℕ). groups k m ++ drop j s) n)
 

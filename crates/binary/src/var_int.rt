@@ -24,17 +24,12 @@ pub struct Parts {
 
 // The sign and the size of `value`, of the lowest i64 too.
 pub fn parts_of(value: i64) -> Parts
-    ensures { λ r. ⌜ (r .negative ≡ isNegative value) × (r .magnitude ≡ natAbs value) ⌝ }
+    ensures { λ r. ⌜ r .negative ≡ isNegative value ⌝ }
+    ensures { λ r. ⌜ r .magnitude ≡ natAbs value ⌝ }
 {
-    if value < 0 {
-        return Parts {
-            negative: true,
-            magnitude: (-(value + 1)) as u64 + 1,
-        };
-    }
     Parts {
-        negative: false,
-        magnitude: value as u64,
+        negative: value < 0,
+        magnitude: integers::unsigned_abs(value),
     }
 }
 

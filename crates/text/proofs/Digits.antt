@@ -20,8 +20,8 @@ unfolding padded
 digits-padded w n k e = ap (λ (m : ℕ). lastDigits m n) e
 
 -- a number of 64 bits has at most twenty digits
-pub count-u64 : (n : ℕ) → n < 2 ^ 64 → digitCount n ≤ 20
-count-u64 n h = fewest 10 (lit< tt) 20 n (lit≤ tt) (omega arith)
+pub digits-u64 : (n : ℕ) → n < 2 ^ 64 → digitCount n ≤ 20
+digits-u64 n h = fewest 10 (lit< tt) 20 n (lit≤ tt) (omega arith)
 
 -- a number below 10 ^ w takes w digits
 pub padded-digits : (w n : ℕ) → 1 ≤ w → n < 10 ^ w → padded w n ≡ lastDigits w n

@@ -25,7 +25,7 @@ use Rattle.ion.specs.declared.VarIntRead.{VarIntRead}
 use Rattle.ion.specs.declared.VarIntRead.the-variants as int
 use Rattle.ion.specs.declared.IntRead.{IntRead}
 use Rattle.ion.specs.declared.IntRead.the-variants as magnitude
-use Rattle.binary.proofs.VarUInts.{read-is}
+use Rattle.binary.proofs.VarUInts.{read-varuint-is}
 use Rattle.binary.proofs.VarInts.{read-signed-is}
 use Rattle.binary.proofs.Ints.{read-int-is}
 use Rattle.timestamp_binary.proofs.BodyRuns.{fraction-bytes}
@@ -94,7 +94,7 @@ fields-is (suc n) (b ∷ s) l r h e =
         → (q : Decoded (List ℕ × List ℕ)) → decodeFields n (drop k (b ∷ s)) ≡ q → oneMore v q ≡ found (l, r) → FieldsIs (suc n) (b ∷ s) l r
     step v k f ih (found p) g e =
         let c = ih (p .0) (p .1) g in
-        let d = read-is 16383 (b ∷ s) v k h f in
+        let d = read-varuint-is 16383 (b ∷ s) v k h f in
         found-one (λ (q : List ℕ × List ℕ). FieldsIs (suc n) (b ∷ s) (q .0) (q .1)) e
         (record {
           bytes = d .2 ∙ ap (λ (t : List ℕ). varuint v ++ t) (c .bytes) ∙ sym (append-assoc (varuint v) (varuints (p .0)) (p .1));

@@ -8,7 +8,7 @@ use lib.ListN.{drop}
 use Rattle.ion.specs.Numbers.VarUInt.{scanFrom}
 use Rattle.ion.specs.Numbers.NumberReads.{varUIntAnswer}
 use Rattle.binary.proofs.Numbered.{numbered}
-use Rattle.binary.proofs.VarUInts.{count-u64, read-padded, read-scanned}
+use Rattle.binary.proofs.VarUInts.{groups-u64, read-padded, read-scanned}
 use Rattle.binary.proofs.var_uint.read_u64.Statement.{statement}
 use Rattle.binary.proofs.var_uint.read_u64.Tie as tie
 
@@ -18,7 +18,7 @@ returns c = numbered varUIntAnswer (sym (read-padded _ _ (sym (c .before .zero-f
 read-groups-requires : tie.Need-read-groups-requires
 read-groups-requires c κs =
     let a = c .before .before .before .before in
-    (lit< tt, omega (arith, c .encoded-size-of .ensures, count-u64 (a .args .limit) (a .fits .limit .fits)))
+    (lit< tt, omega (arith, c .encoded-size-of .ensures, groups-u64 (a .args .limit) (a .fits .limit .fits)))
 
 returns-2 : tie.Need-returns-2
 returns-2 c =

@@ -2,7 +2,7 @@
 use native.Mathlib.Omega.{arith}
 use lib.Dec.{lit<}
 use Rattle.places.proofs.Laws.{Counted, count-start, count-turn, count-end, counted-below}
-use Rattle.text.proofs.Digits.{count-u64}
+use Rattle.text.proofs.Digits.{digits-u64}
 use Rattle.text.proofs.text_formatter.digit_count.Statement.{statement}
 use Rattle.text.proofs.text_formatter.digit_count.Tie as tie
 
@@ -21,7 +21,7 @@ add-n c =
     omega (
       arith,
       counted-below 10 (lit< tt) (c .before .loop .inv) (c .loop-test .taken),
-      count-u64 (s .args .value) (s .fits .value .fits),
+      digits-u64 (s .args .value) (s .fits .value .fits),
     )
 
 loop-again : tie.Need-loop-again Inv-loop μ-loop

@@ -9,7 +9,7 @@ use lib.ListN.{length, drop, length-drop}
 use Rattle.places.proofs.Below.{below-drop}
 use Rattle.ion.specs.Value.Decode.{Decoded, nothing, fieldFrom, decodeFields}
 use Rattle.ion.specs.declared.VarUIntRead.{VarUIntRead}
-use Rattle.binary.proofs.VarUInts.{read-is, read-within}
+use Rattle.binary.proofs.VarUInts.{read-varuint-is, read-within}
 use Rattle.value_reader.proofs.FieldSteps.{Passed, more-left, passed-none, passed-more, passed-bad, passed-all, fields-none}
 use Rattle.value_reader.proofs.decoder.read_fields.Statement.{statement}
 use Rattle.value_reader.proofs.decoder.read_fields.Tie as tie
@@ -38,7 +38,7 @@ found c =
     let e = sym (r .read-u64 .ensures .0) ∙ c .v .given .1 in
     let g = b .shared-slice-known .given in
     let h = more-left s (l .count) (l .next) (t .loop-test .taken) in (
-      read-is 16383 (drop (l .next) s) _ _ (below-drop 256 (l .next) s (λ i. g i .fits)) e .0,
+      read-varuint-is 16383 (drop (l .next) s) _ _ (below-drop 256 (l .next) s (λ i. g i .fits)) e .0,
       omega (arith, read-within 16383 (drop (l .next) s) _ _ e, length-drop (l .next) s),
     )
 
