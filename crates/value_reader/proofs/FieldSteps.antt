@@ -146,8 +146,8 @@ module _ {s : List ℕ} {q : Decoded (List ℕ × List ℕ)} {r : FieldsRead} (f
       go true e = ap (λ (b : Bool). cond b (afterFields o l (decodeFraction (drop (r .next) s))) nothing) (ap isFieldCount counted ∙ e)
       go false e = ap (λ (b : Bool). cond b (afterFields o l (decodeFraction (drop (r .next) s))) nothing) e
 
-  pub body-values : (o : Offset) (p d c : ℕ) → p ≡ precisionWith (r .count) → {u : Fields} → u ≡ fieldsFrom (r .values) p d
+  pub body-values : (o : Offset) (d c : ℕ) {u : Fields} → u ≡ fieldsFrom (r .values) (precisionWith (r .count)) d
       → _≡_ {A = Body} (record { offset = o; utc = u; coefficient = c }) (bodyWith o (take (r .count) (r .values)) d c)
-  body-values o p d c e g =
+  body-values o d c e =
       ap (λ (x : Fields). record { offset = o; utc = x; coefficient = c })
-      (g ∙ ap₂ (λ (v : List ℕ) (k : ℕ). fieldsFrom v k d) (f .values) (e ∙ ap precisionWith (sym counted)))
+      (e ∙ ap₂ (λ (v : List ℕ) (k : ℕ). fieldsFrom v (precisionWith k) d) (f .values) (sym counted))

@@ -144,9 +144,10 @@ fn precision_with(count: usize) -> u32
     (count - 1) as u32
 }
 
-// UTC fields, which have no offset.
-fn fields_from(values: [u32; 6], precision: u32, digits: u32) -> Fields
-    ensures { λ r. ⌜ r ≡ fieldsFrom values precision digits ⌝ }
+// UTC fields, of which `count` are there.
+fn fields_from(values: [u32; 6], count: usize, digits: u32) -> Fields
+    requires { ⌜ count ≤ 6 ⌝ }
+    ensures { λ r. ⌜ r ≡ fieldsFrom values (precisionWith count) digits ⌝ }
 {
     Fields {
         year: values[0],
@@ -155,7 +156,7 @@ fn fields_from(values: [u32; 6], precision: u32, digits: u32) -> Fields
         hour: values[3],
         minute: values[4],
         second: values[5],
-        precision: precision,
+        precision: precision_with(count),
         digits: digits,
         offset: offset::raw_of(Offset::Unknown),
     }
@@ -167,13 +168,14 @@ fn after_offset(s: &[u8], at: usize, offset: Offset) -> BodyRead
 {
     let f = read_fields(s, at);
     let values = f.values;
-    if !(f.found & (f.count != 0) & (f.count != 4)) {
+    let count = f.count;
+    if !(f.found & (count != 0) & (count != 4)) {
         return BodyRead::Nothing;
     }
     match read_fraction(s, f.next) {
         FractionRead::Parts(digits, coefficient) => BodyRead::Parts(Body {
             offset: offset,
-            utc: fields_from(values, precision_with(f.count), digits),
+            utc: fields_from(values, count, digits),
             coefficient: coefficient,
         }),
         FractionRead::Nothing => BodyRead::Nothing,

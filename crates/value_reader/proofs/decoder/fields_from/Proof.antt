@@ -4,7 +4,7 @@ use Rattle.value_reader.proofs.decoder.fields_from.Statement.{statement
 use Rattle.value_reader.proofs.decoder.fields_from.Tie as tie
 
 returns : tie.Need-returns
-returns c = rw (c .raw-of .ensures)
+returns c = rw (c .before .precision-with .ensures, c .raw-of .ensures)
 
 pub fields-from-spec : {M : Type 1} → statement M
 fields-from-spec =
@@ -16,5 +16,6 @@ fields-from-spec =
     (λ c. search needs)
     (λ c. search needs)
     (λ c. search needs)
+    (λ c κs. search needs)
     (λ c κs. search needs)
     returns)
