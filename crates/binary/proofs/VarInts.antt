@@ -123,11 +123,11 @@ pub read-varint : (l : ℕ) (z : ℤ) (r : List ℕ) → natAbs z ≤ l
 unfolding varint
 read-varint l z r h = read-signed l (isNegative z) (natAbs z) r h
 
--- the sign and the size of a number that was handed on in 64 bits are its own
-pub handed-on : {z : ℤ} {g : Bool} {m : ℕ} → SFits w64 z → (g ≡ isNegative (toZ w64 (ofZ w64 z))) × (m ≡ natAbs (toZ w64 (ofZ w64 z)))
+-- the sign and the size of a number that is passed as an i64 are its own
+pub i64-parts : {z : ℤ} {g : Bool} {m : ℕ} → SFits w64 z → (g ≡ isNegative (toZ w64 (ofZ w64 z))) × (m ≡ natAbs (toZ w64 (ofZ w64 z)))
     → (m ≡ natAbs z) × (signed g m ≡ varint z)
 unfolding varint
-handed-on {z} {g} {m} f e =
+i64-parts {z} {g} {m} f e =
     let h : (g ≡ isNegative z) × (m ≡ natAbs z) = simp toZ-ofZ at e in
     (h .1, ap₂ signed (h .0) (h .1))
 

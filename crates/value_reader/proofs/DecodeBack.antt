@@ -91,17 +91,17 @@ fraction-back (suc d) c h l z =
 -- ---- the whole
 
 -- the fields that are written at a precision
-abbrev written : Fields → ℕ → List ℕ
-written u p = take (fieldCount p) (fieldList u)
+abbrev fieldsAt : Fields → ℕ → List ℕ
+fieldsAt u p = take (fieldCount p) (fieldList u)
 
--- as many numbers as are written at a precision
+-- k is how many are written at a precision p
 record IsCount (k p : ℕ) : Type 0 where
   precision : precisionWith k ≡ p
   most : k ≤ 6
   fewer : k < 6 → p < 4
 
--- the fields that are written give back all six, and the precision
-record GivesBack (u : Fields) (l : List ℕ) (p : ℕ) : Type 0 where
+-- the fields that are written restore all six, and the precision
+record Restores (u : Fields) (l : List ℕ) (p : ℕ) : Type 0 where
   all : filled l ≡ fieldList u
   counted : isFieldCount (length l) ≡ true
   number : IsCount (length l) p
@@ -112,26 +112,26 @@ fields-are u v k e f z =
     ap₂ (λ (w : List ℕ) (j : ℕ). fieldsFrom w j (u .digits)) e f ∙ ap (withTime u (timeIn u)) (sym z)
 
 module _ (x : Body) (p : Encodable x) where
-  given-back-at : (k : ℕ) → x .utc .precision ≡ k → GivesBack (x .utc) (written (x .utc) k) k
+  restored-at : (k : ℕ) → x .utc .precision ≡ k → Restores (x .utc) (fieldsAt (x .utc) k) k
   unfolding fieldCount filled precisionWith
-  given-back-at zero e =
+  restored-at zero e =
       let hour = p .no-hour (omega arith) in
       let minute = p .no-minute (omega arith) in
       let second = p .no-second (omega arith) in
       record { all = rw (p .no-month (omega arith), p .no-day (omega arith), hour, minute, second); counted = refl; number = omega arith }
-  given-back-at (suc zero) e =
+  restored-at (suc zero) e =
       let hour = p .no-hour (omega arith) in
       let minute = p .no-minute (omega arith) in
       let second = p .no-second (omega arith) in
       record { all = rw (p .no-day (omega arith), hour, minute, second); counted = refl; number = omega arith }
-  given-back-at (suc (suc zero)) e =
+  restored-at (suc (suc zero)) e =
       let hour = p .no-hour (omega arith) in
       let minute = p .no-minute (omega arith) in
       let second = p .no-second (omega arith) in
       record { all = rw (hour, minute, second); counted = refl; number = omega arith }
-  given-back-at (suc (suc (suc zero))) e = record { all = rw (p .no-second (omega arith)); counted = refl; number = omega arith }
-  given-back-at (suc (suc (suc (suc zero)))) e = record { all = refl; counted = refl; number = omega arith }
-  given-back-at (suc (suc (suc (suc (suc k))))) e = absurd (omega (arith, p .precise))
+  restored-at (suc (suc (suc zero))) e = record { all = rw (p .no-second (omega arith)); counted = refl; number = omega arith }
+  restored-at (suc (suc (suc (suc zero)))) e = record { all = refl; counted = refl; number = omega arith }
+  restored-at (suc (suc (suc (suc (suc k))))) e = absurd (omega (arith, p .precise))
 
   -- a body is read back as its parts
   pub body-back : decodeBody (bodyFrom (x .offset) (x .utc) (x .coefficient)) ≡ found x
@@ -140,8 +140,8 @@ module _ (x : Body) (p : Encodable x) where
       let o = x .offset in
       let u = x .utc in
       let c = x .coefficient in
-      let l = written u (u .precision) in
-      let b = given-back-at (u .precision) refl in
+      let l = fieldsAt u (u .precision) in
+      let b = restored-at (u .precision) refl in
       let t = fractionBytes (u .digits) c in
       let small = below-take 16384 (fieldCount (u .precision)) (fieldList u) (lit< tt) (p .small) in
       let fields = fields-are u (filled l) (precisionWith (length l)) (b .all) (b .number .precision) (p .no-raw) in

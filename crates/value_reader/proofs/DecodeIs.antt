@@ -200,9 +200,9 @@ pub record BodyIs (s : List ℕ) (x : Body) : Type 0 where
   pub encodable : Encodable x
 
 module _ {s : List ℕ} {o : Offset} {a l t : List ℕ} (w : OffsetIs s o a) (p : FieldsIs 6 a l t) (k : isFieldCount (length l) ≡ true) where
-  joined : (d c : ℕ) → FractionIs t d c → decodeFraction t ≡ found (d, c) → BodyIs s (bodyWith o l d c)
+  body-joined : (d c : ℕ) → FractionIs t d c → decodeFraction t ≡ found (d, c) → BodyIs s (bodyWith o l d c)
   unfolding bodyFrom
-  joined d c q e =
+  body-joined d c q e =
       let f = filled-is l d (p .most) k in
       let u = f .1 in
       let parts = ap₂ (λ (m r : List ℕ). varuints m ++ r) (sym (f .0)) (q .bytes) in
@@ -232,7 +232,7 @@ body-is s x h e = first (decodeOffset s) refl e
   where
     fourth : {o : Offset} {a l t : List ℕ} → OffsetIs s o a → FieldsIs 6 a l t → isFieldCount (length l) ≡ true → Below 256 t
         → (q : Decoded (ℕ × ℕ)) → decodeFraction t ≡ q → afterFields o l q ≡ found x → BodyIs s x
-    fourth {t = t} w p k b (found y) f e = found-one (BodyIs s) e (joined w p k (y .0) (y .1) (fraction-is t (y .0) (y .1) b f) f)
+    fourth {t = t} w p k b (found y) f e = found-one (BodyIs s) e (body-joined w p k (y .0) (y .1) (fraction-is t (y .0) (y .1) b f) f)
     fourth w p k b nothing f e = not-nothing e
 
     third : {o : Offset} {a l t : List ℕ} → OffsetIs s o a → FieldsIs 6 a l t → Below 256 t → (k : Bool) → isFieldCount (length l) ≡ k

@@ -26,7 +26,7 @@ use Rattle.value_reader.proofs.Values.{value-back}
 
 -- ---- a body
 
-record BodyRead (b : List ℕ) (n : ℕ) (r : Read) : Type 0 where
+record BodyTaken (b : List ℕ) (n : ℕ) (r : Read) : Type 0 where
   accepted : Accepted (r .stamp)
   bytes : bodyOf (r .stamp) ≡ b
   taken : r .taken ≡ n
@@ -34,33 +34,33 @@ record BodyRead (b : List ℕ) (n : ℕ) (r : Read) : Type 0 where
 no-refusal : {A : Type 0} (n : ℕ) → 0 < n → refusedReading n .number ≡ 0 → A
 no-refusal n h e = absurd (omega arith)
 
-body-read-is : (n : ℕ) (b : List ℕ) → readBody n b .number ≡ 0 → BodyRead b n (readBody n b)
+body-read-is : (n : ℕ) (b : List ℕ) → readBody n b .number ≡ 0 → BodyTaken b n (readBody n b)
 unfolding readBody isBodyOf
 body-read-is n b e = go (decodeBody b) e
   where
     test : (s : Timestamp) (t : Bool) → isBodyOf b s ≡ t → cond t (acceptedReading s n) (refusedReading bodyRefused) .number ≡ 0
-        → BodyRead b n (cond t (acceptedReading s n) (refusedReading bodyRefused))
+        → BodyTaken b n (cond t (acceptedReading s n) (refusedReading bodyRefused))
     test s true q e =
         let p = and-eq-true-iff (eqb (checkNumber s) 0) (same (bodyOf s) b) .0 q in
         record { accepted = check-gives s (eqb-true (checkNumber s) 0 (p .0)); bytes = same-is (bodyOf s) b (p .1); taken = refl }
     test s false q e = no-refusal bodyRefused (omega arith) e
 
-    go : (d : Decoded Body) → takenAs n b d .number ≡ 0 → BodyRead b n (takenAs n b d)
+    go : (d : Decoded Body) → takenAs n b d .number ≡ 0 → BodyTaken b n (takenAs n b d)
     go (found x) e = test (pairFrom x) _ refl e
     go nothing e = no-refusal bodyRefused (omega arith) e
 
 -- ---- a body of n bytes after a header of k
 
-record AfterRead (k n : ℕ) (s : List ℕ) (r : Read) : Type 0 where
+record AfterTaken (k n : ℕ) (s : List ℕ) (r : Read) : Type 0 where
   enough : n ≤ length s
-  body : BodyRead (take n s) (k + n) r
+  body : BodyTaken (take n s) (k + n) r
 
-after-is : (k n : ℕ) (s : List ℕ) → readAfter k n s .number ≡ 0 → AfterRead k n s (readAfter k n s)
+after-is : (k n : ℕ) (s : List ℕ) → readAfter k n s .number ≡ 0 → AfterTaken k n s (readAfter k n s)
 unfolding readAfter
 after-is k n s e = go (ltb (length s) n) refl e
   where
     go : (t : Bool) → ltb (length s) n ≡ t → cond t (refusedReading inputEnds) (readBody (k + n) (take n s)) .number ≡ 0
-        → AfterRead k n s (cond t (refusedReading inputEnds) (readBody (k + n) (take n s)))
+        → AfterTaken k n s (cond t (refusedReading inputEnds) (readBody (k + n) (take n s)))
     go true q e = no-refusal inputEnds (omega arith) e
     go false q e = record { enough = ltb-false (length s) n q; body = body-read-is (k + n) (take n s) e }
 
@@ -71,10 +71,10 @@ pub record ReadAs (b : List ℕ) (r : Read) : Type 0 where
   pub bytes : b ≡ valueOf (r .stamp) ++ drop (r .taken) b
   pub taken : r .taken ≡ length (valueOf (r .stamp))
 
-body-size : {k n : ℕ} {s : List ℕ} {r : Read} → AfterRead k n s r → length (bodyOf (r .stamp)) ≡ n
+body-size : {k n : ℕ} {s : List ℕ} {r : Read} → AfterTaken k n s r → length (bodyOf (r .stamp)) ≡ n
 body-size {k} {n} {s} {r} a = ap length (a .body .bytes) ∙ length-take-le n s (a .enough)
 
-short-is : (d : ℕ) (s : List ℕ) (r : Read) → 0x60 ≤ d → d ≤ 0x6d → AfterRead 1 (d - 0x60) s r → ReadAs (d ∷ s) r
+short-is : (d : ℕ) (s : List ℕ) (r : Read) → 0x60 ≤ d → d ≤ 0x6d → AfterTaken 1 (d - 0x60) s r → ReadAs (d ∷ s) r
 unfolding valueOf
 short-is d s r l u a =
     let n = d - 0x60 in
@@ -88,7 +88,7 @@ short-is d s r l u a =
       taken = rw h (omega (arith, t, z));
     }
 
-long-is : (c : ℕ) (s : List ℕ) (r : Read) → 0x8e ≤ c → c ≤ 0x92 → AfterRead 2 (c - 0x80) s r → ReadAs (0x6e ∷ c ∷ s) r
+long-is : (c : ℕ) (s : List ℕ) (r : Read) → 0x8e ≤ c → c ≤ 0x92 → AfterTaken 2 (c - 0x80) s r → ReadAs (0x6e ∷ c ∷ s) r
 unfolding valueOf
 long-is c s r l u a =
     let n = c - 0x80 in

@@ -49,9 +49,9 @@ module _ (f : Fields) (a : ℕ) (v : Valid f a) where
   raw-again e = ap rawOf (sym e) ∙ back-and-raw (f .offset) (v .offset)
 
   -- the parts give the fields back
-  pub local-fields : localBy (offsetOf (f .offset)) (utcFields f) ≡ f
+  pub fields-again : localBy (offsetOf (f .offset)) (utcFields f) ≡ f
   unfolding utcFields
-  local-fields = go (offsetOf (f .offset)) refl (valid-offset v)
+  fields-again = go (offsetOf (f .offset)) refl (valid-offset v)
     where
       go : (o : Offset) → offsetOf (f .offset) ≡ o → WithinDay o → localBy o (utcBy o f) ≡ f
       go Unknown e w = ap (withTime f (timeIn f)) (raw-again e)
@@ -96,6 +96,6 @@ module _ (f : Fields) (a : ℕ) (v : Valid f a) where
               coefficient = rw (u .digits) coefficient-below;
               known-late = λ h. unknown (omega (arith, u .precision));
             };
-        from-year = rw local-fields (v .from-year);
-        to-year = rw local-fields (v .to-year);
+        from-year = rw fields-again (v .from-year);
+        to-year = rw fields-again (v .to-year);
       }

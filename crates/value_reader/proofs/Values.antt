@@ -24,7 +24,7 @@ use Rattle.timestamp_binary.proofs.Lengths.{body-length}
 use Rattle.timestamp_binary.proofs.Headers.{header-short, header-long}
 use Rattle.value_reader.specs.BodyParts.{bodyFor}
 use Rattle.value_reader.proofs.DecodeBack.{body-back}
-use Rattle.value_reader.proofs.UtcBody.{encodable, local-fields, attoseconds-back}
+use Rattle.value_reader.proofs.UtcBody.{encodable, fields-again, attoseconds-back}
 
 -- ---- the body of an accepted timestamp
 
@@ -35,7 +35,7 @@ module _ (s : Timestamp) (p : Accepted s) where
       let f = fieldsOf (wordIn s) in
       let a = s .attoseconds in
       let v = p .fields in
-      let w = ap wordOf (local-fields f a v) ∙ accepted-word p in
+      let w = ap wordOf (fields-again f a v) ∙ accepted-word p in
       let c = ap (λ (d : ℕ). a / scale (f .digits) * scale d) (utc-is v .digits) ∙ attoseconds-back f a v in
       ap₂ packedPair w c
 

@@ -4,14 +4,14 @@ use mathlib.Core.Path.{_≡_, sym, ap, _∙_}
 use native.Mathlib.Omega.{arith}
 use lib.IntN.{natAbs}
 use lib.ListN.{length}
-use Rattle.binary.proofs.VarInts.{handed-on, signed-u64}
+use Rattle.binary.proofs.VarInts.{i64-parts, signed-u64}
 use Rattle.binary.proofs.Ints.{int-most}
 use Rattle.binary.proofs.Decimals.{decimal-none, length-some}
 use Rattle.binary.proofs.decimal.encoded_size_of.Statement.{statement}
 use Rattle.binary.proofs.decimal.encoded_size_of.Tie as tie
 
 size : (c : tie.After-parts-of) → c .parts-of .result .magnitude ≡ natAbs (c .before .args .exponent)
-size c = handed-on (c .before .fits .exponent) (c .parts-of .ensures) .0
+size c = i64-parts (c .before .fits .exponent) (c .parts-of .ensures) .0
 
 returns : tie.Need-returns
 returns c =

@@ -9,7 +9,7 @@ use Rattle.ion.specs.Numbers.VarInt.{signed, varint}
 use Rattle.ion.specs.Numbers.Int.{int}
 use Rattle.ion.specs.Numbers.Decimal.{decimalBytes}
 use Rattle.output.proofs.Runs.{Room, room-first, room-next, run-none, run-is, run-both}
-use Rattle.binary.proofs.VarInts.{handed-on, length-signed}
+use Rattle.binary.proofs.VarInts.{i64-parts, length-signed}
 use Rattle.binary.proofs.Ints.{length-int}
 use Rattle.binary.proofs.Decimals.{decimal-none, decimal-some}
 use Rattle.binary.proofs.decimal.put_decimal.Statement.{statement}
@@ -20,7 +20,7 @@ parts : (c : tie.After-parts-of) →
     let z = c .before .before .args .exponent in
     let p = c .parts-of .result in
     (p .magnitude ≡ natAbs z) × (signed (p .negative) (p .magnitude) ≡ varint z)
-parts c = handed-on (c .before .before .fits .exponent) (c .parts-of .ensures)
+parts c = i64-parts (c .before .before .fits .exponent) (c .parts-of .ensures)
 
 returns : tie.Need-returns
 returns c =

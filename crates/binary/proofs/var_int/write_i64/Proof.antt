@@ -2,7 +2,7 @@
 use borrow.Author.Needs.{needs}
 use mathlib.Core.Path.{ap, _∙_}
 use Rattle.ion.specs.Calls.Output.{put, wrote}
-use Rattle.binary.proofs.VarInts.{handed-on}
+use Rattle.binary.proofs.VarInts.{i64-parts}
 use Rattle.binary.proofs.var_int.write_i64.Statement.{statement}
 use Rattle.binary.proofs.var_int.write_i64.Tie as tie
 
@@ -11,7 +11,7 @@ returns c =
     let w = c .before .before in
     let f = w .before .before .before .before in
     let a = f .args in
-    let s = handed-on (f .fits .value) (w .before .parts-of .ensures) .1 in
+    let s = i64-parts (f .fits .value) (w .before .parts-of .ensures) .1 in
     let e = w .write-parts .ensures in
     (e .0 ∙ ap (wrote (a .buf .now) (a .at)) s, e .1 ∙ ap (put (a .buf .now) (a .at)) s)
 

@@ -24,12 +24,12 @@ loop-holds : tie.Need-loop-holds Inv-loop μ-loop
 loop-holds c = passed-none _ _
 
 -- the turn's field is within its bounds, and within the bytes
-found : (c : tie.After-v Inv-loop μ-loop) →
+field-bounds : (c : tie.After-v Inv-loop μ-loop) →
     let r = c .before .before in
     let l = r .before .before .loop in
     let s = r .before .before .before .before .args .s .now in
     (c .v .given .0 .0 ≤ 16383) × (l .next + c .v .given .0 .1 .0 ≤ length s)
-found c =
+field-bounds c =
     let r = c .before .before in
     let t = r .before in
     let l = t .before .loop in
@@ -49,10 +49,10 @@ not-last c =
     more-left (t .before .before .before .args .s .now) (l .count) (l .next) (t .loop-test .taken) .0
 
 cast-values : tie.Need-cast-values Inv-loop μ-loop
-cast-values c = omega (arith, found (c .before) .0)
+cast-values c = omega (arith, field-bounds (c .before) .0)
 
 add-next : tie.Need-add-next Inv-loop μ-loop
-add-next c = omega (arith, found (c .before) .1)
+add-next c = omega (arith, field-bounds (c .before) .1)
 
 loop-again : tie.Need-loop-again Inv-loop μ-loop
 loop-again c =

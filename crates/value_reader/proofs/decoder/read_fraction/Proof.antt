@@ -23,11 +23,11 @@ returns c =
     sym (ap decodeFraction e)
 
 -- the exponent is within its bounds, and within the bytes
-found : (c : tie.After-negative) →
+exponent-bounds : (c : tie.After-negative) →
     let r = c .before .before in
     let a = r .before .before .before .args in
     (c .negative .given .0 .1 .0 ≤ 63) × (a .at + c .negative .given .0 .1 .1 .0 ≤ length (a .s .now))
-found c =
+exponent-bounds c =
     let r = c .before .before in
     let b = r .before .before in
     let a = b .before .args in
@@ -49,13 +49,13 @@ whole c =
     ∙ ap (fractionFrom t) (sym (c .read-i64 .ensures .0))
 
 add-read-coefficient : tie.Need-add-read-coefficient
-add-read-coefficient c = omega (arith, found (c .before .before) .1)
+add-read-coefficient c = omega (arith, exponent-bounds (c .before .before) .1)
 
 cast-read-coefficient : tie.Need-cast-read-coefficient
-cast-read-coefficient c = omega (arith, found (c .before .before) .0)
+cast-read-coefficient c = omega (arith, exponent-bounds (c .before .before) .0)
 
 read-coefficient-requires : tie.Need-read-coefficient-requires
-read-coefficient-requires c κs = found (c .before .before) .1
+read-coefficient-requires c κs = exponent-bounds (c .before .before) .1
 
 returns-2 : tie.Need-returns-2
 returns-2 c =
