@@ -1,8 +1,8 @@
 // Order, equality and distance of two packed pairs.
+use crate::answers::pair;
 use crate::answers::store_compared;
 use crate::answers::store_distance;
 use crate::answers::store_ordered;
-use crate::answers::pair;
 ghost use Rattle.ion.specs.Pair.Pair.{packedPair};
 ghost use Rattle.ion.specs.Calls.Order.{cmpOf, eqOf, ionCmpOf, ionEqOf, distanceOf};
 ghost use Rattle.test_exports.specs.Answers.{OrderedIs, ComparedIs, DistanceIs};

@@ -1,6 +1,6 @@
 // Calls on one packed pair that give a pair.
-use crate::answers::store_built;
 use crate::answers::pair;
+use crate::answers::store_built;
 ghost use Rattle.ion.specs.Pair.Pair.{packedPair};
 ghost use Rattle.ion.specs.Calls.Check.{checkOf};
 ghost use Rattle.ion.specs.Calls.Utc.{utcOf};

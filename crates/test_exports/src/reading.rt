@@ -1,12 +1,12 @@
 // What a timestamp tells.
+use crate::answers::pair;
 use crate::answers::store_attoseconds;
 use crate::answers::store_decimal;
 use crate::answers::store_field;
 use crate::answers::store_offset;
-use crate::answers::pair;
-use test_field_sets::UNKNOWN_CODE;
 use ion::Field;
 use ion::Timestamp;
+use test_field_sets::UNKNOWN_CODE;
 ghost use mathlib.Core.Path.{_≡_};
 ghost use Rattle.ion.specs.Pair.Pair.{packedPair};
 ghost use Rattle.ion.specs.Calls.Reads.{attosecondsFieldOf, decimalFieldOf, offsetFieldOf};

@@ -1,7 +1,7 @@
 // Text and value bytes, written and read.
+use crate::answers::pair;
 use crate::answers::store_read;
 use crate::answers::store_written;
-use crate::answers::pair;
 ghost use mathlib.Core.Path.{_≡_};
 ghost use Rattle.ion.specs.Pair.Pair.{packedPair};
 ghost use Rattle.ion.specs.Calls.Check.{checkOf};

@@ -1,2 +1,2 @@
-pub mod Signed
-pub mod Inside
+-- What the proofs of several functions use.
+mod Inside

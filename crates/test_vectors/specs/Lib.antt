@@ -1,4 +1,2 @@
--- What the contracts of `vectors` cite beside the definitions of `ion`.
-pub mod Fields
-pub mod Agreement
+-- What the contracts of `test_vectors` cite.
 pub mod Records

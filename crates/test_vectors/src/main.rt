@@ -1,14 +1,8 @@
 // Replays recorded answers of the Rust, read from standard input, against the library, and prints how many agree.
 // The file's format stands in differential/README.md.
-mod built;
-mod field_set;
-mod fields;
 mod lines;
-mod orders;
-mod read;
 mod records;
 mod replay;
-mod written;
 
 use libc::STDIN_FILENO;
 ghost use mathlib.Core.Path.{_≡_};

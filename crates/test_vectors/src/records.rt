@@ -1,14 +1,8 @@
 // The records of a file: a kind, the number of bytes that follow, and these.
-use crate::built::build_agrees;
-use crate::built::check_agrees;
-use crate::built::utc_agrees;
-use crate::fields::byte_at;
-use crate::fields::count_at;
-use crate::fields::half_at;
-use crate::orders::distance_agrees;
-use crate::orders::order_agrees;
-use crate::read::read_agrees;
-use crate::written::written_agrees;
+use test_answers::case_length;
+use test_answers::count_at;
+use test_answers::half_at;
+ghost use Prim.Native.Nat.{_+_, _<_};
 ghost use lib.ListN.{length};
 ghost use Rattle.test_vectors.specs.Records.{Inside};
 
@@ -21,40 +15,14 @@ pub enum Record {
     Broken,
 }
 
-// The number of bytes that a case of the kind has: 256, which no record has, for an unknown kind.
-fn case_length(kind: u8, r: &[u8]) -> usize {
-    match kind {
-        1 => 65,
-        2 | 3 => 33,
-        4 => 37,
-        5 | 6 => 18 + count_at(r, 17),
-        7 => 19 + count_at(r, 18),
-        8 => 50,
-        9 | 10 => 9 + count_at(r, 8),
-        11 => 10 + count_at(r, 9),
-        _ => 256,
-    }
-}
-
-pub(crate) fn record_at(file: &[u8], at: usize) -> Record
-    ensures { λ r. ⌜ Inside at (length (now (file .entry))) r ⌝ }
+// A record of the kind whose bytes are `r`.
+fn record_of(kind: u8, r: &[u8]) -> Record
+    ensures { λ x. ⌜ Inside 0 (2 + length (now (r .entry))) x ⌝ }
 {
-    if file.len() < 2 {
-        return Record::Broken;
-    }
-    if file.len() - 2 < at {
-        return Record::Broken;
-    }
-    let kind = file[at];
-    let start = at + 2;
-    let n = count_at(file, at + 1);
-    if file.len() - start < n {
-        return Record::Broken;
-    }
+    let n = r.len();
     if kind == 0 {
         return Record::Source(n);
     }
-    let r = &file[start..start + n];
     if kind == 255 {
         if n == 4 {
             return Record::End(half_at(r, 0));
@@ -67,17 +35,18 @@ pub(crate) fn record_at(file: &[u8], at: usize) -> Record
     Record::Broken
 }
 
-// Whether the library's answer to a case is the recorded one.
-pub(crate) fn agrees(kind: u8, r: &[u8]) -> bool {
-    match kind {
-        1 => build_agrees(r),
-        2 => check_agrees(r),
-        3 => utc_agrees(r),
-        4 => order_agrees(r),
-        5 | 6 => written_agrees(kind, r),
-        7 => read_agrees(r),
-        8 => distance_agrees(r),
-        9..=11 => written_agrees(kind, r),
-        _ => false,
+// The record from index `at` on.
+pub(crate) fn record_at(file: &[u8], at: usize) -> Record
+    requires { ⌜ at < length (now file) ⌝ }
+    ensures { λ r. ⌜ Inside at (length (now (file .entry))) r ⌝ }
+{
+    if file.len() - at < 2 {
+        return Record::Broken;
     }
+    let n = count_at(file, at + 1);
+    let start = at + 2;
+    if file.len() - start < n {
+        return Record::Broken;
+    }
+    record_of(file[at], &file[start..start + n])
 }

@@ -1,4 +1,4 @@
--- `test_vectors::replay::count_cases` meets its contract. The loop's invariant is what it ensures of the cases so far. Assumes nothing.
+-- `test_vectors::replay::count_cases` meets its contract. Assumes nothing.
 use Prim.Native.Nat.{_+_, _≤_, _-_}
 use native.Mathlib.Omega.{arith}
 use lib.ListN.{length}
@@ -8,34 +8,19 @@ use Rattle.test_vectors.proofs.replay.count_cases.Statement.{statement}
 use Rattle.test_vectors.proofs.replay.count_cases.Tie as tie
 
 abbrev Inv-loop : tie.InvT-loop
-Inv-loop file start at₀ records₀ agreed₀ at records agreed = (start + records ≤ at) × (at ≤ length file) × (agreed ≤ records)
+Inv-loop file start at₀ records₀ agreed₀ at records agreed =
+    (start + records ≤ at) × (at ≤ length file) × (agreed ≤ records)
 
 abbrev μ-loop : tie.MeasureT-loop
 μ-loop file start at₀ records₀ agreed₀ at records agreed = length file - at
 
-add-end : tie.Need-add-end Inv-loop μ-loop
-add-end c =
-    let t = c .before in
-    let r = t .before .before in
+-- the case that was found lies inside the file
+inside : (c : tie.After-n Inv-loop μ-loop)
+    → let l = c .before .before .before .before in l .loop .at + 2 + c .n .given .0 .0 ≤ length (l .before .before .args .file .now)
+inside c =
+    let r = c .before .before in
     let l = r .before .before in
-    let h = case-inside (l .loop .at) (length (l .before .before .args .file .now)) (r .record-at .result) (r .record-at .ensures) (t .n .given .1) in
-    omega arith
-
-part-agrees-end : tie.Need-part-agrees-end Inv-loop μ-loop
-part-agrees-end c =
-    let t = c .before .before in
-    let r = t .before .before in
-    let l = r .before .before in
-    let h = case-inside (l .loop .at) (length (l .before .before .args .file .now)) (r .record-at .result) (r .record-at .ensures) (t .n .given .1) in
-    omega arith
-
-loop-again : tie.Need-loop-again Inv-loop μ-loop
-loop-again c =
-    let t = c .before .before .before .before .before in
-    let r = t .before .before in
-    let l = r .before .before in
-    let h = case-inside (l .loop .at) (length (l .before .before .args .file .now)) (r .record-at .result) (r .record-at .ensures) (t .n .given .1) in
-    omega (arith, c .one-if .ensures)
+    case-inside (l .loop .at) (length (l .before .before .args .file .now)) (c .n .given .1) (r .record-at .ensures)
 
 pub count-cases-spec : {M : Type 1} → statement M
 count-cases-spec =
@@ -44,19 +29,17 @@ count-cases-spec =
     Inv-loop
     μ-loop
     (λ c. omega arith)
-    (λ c κs. tt)
-    (λ c. search needs)
+    (λ c κs. omega arith) (λ c. search needs) (λ c. omega arith)
     (λ c. omega arith)
-    (λ c. omega arith)
-    add-end
+    (λ c. omega (arith, inside (c .before)))
     (λ c. omega arith)
     (λ c. omega arith)
     (λ c. omega arith)
     (λ c. omega arith)
-    part-agrees-end
+    (λ c. omega (arith, inside (c .before .before)))
     (λ c κs. tt)
     (λ c κs. tt)
     (λ c. omega arith)
     (λ c. omega arith)
-    loop-again
+    (λ c. omega (arith, inside (c .before .before .before .before .before), c .one-if .ensures))
     (λ c. omega arith))
