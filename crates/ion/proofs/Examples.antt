@@ -185,10 +185,11 @@ table =
 
 -- every row
 pub examples : map (λ (r : Row). r .given) table ≡ map (λ (r : Row). r .stated) table
-unfolding table row date minute sixth at p1 p3 p4 p5 p6 p7 p8 p1Bytes p3Bytes p4Bytes p5Bytes p6Bytes p7Bytes p8Bytes stamp builtAnswer built
-    refused text written readBack taken compared apart placesOn places countIn count placeCount valueFrom groups varuint scanFrom
-    readVarUInt signedCount signed varint readVarInt intCount int readInt decimalBytes padded isLeap monthLengthOf sumBelow wordOf fieldsOf
-    capped buildOf buildNumber buildPair checkOf utcFields countOf cmpOf eqOf distanceOf marked fractionText clockText minutesText offsetText
-    fieldsText textOf offsetBytes varuints fieldCount fractionBytes bodyFrom bodyOf header valueOf decodeOffset decodeFields decodeFraction
-    filled precisionWith decodeBody pairFrom same isBodyOf readBody readAfter readLength readValue
+unfolding table row date minute sixth at p1 p3 p4 p5 p6 p7 p8 p1Bytes p3Bytes p4Bytes p5Bytes p6Bytes p7Bytes p8Bytes stamp
+    builtAnswer built refused text written readBack taken compared apart placesOn places countIn count placeCount valueFrom groups
+    varuint scanFrom readVarUInt signedCount signed varint readVarInt intCount int readInt decimalBytes padded isLeap
+    monthLengthOf sumBelow wordOf fieldsOf capped buildOf buildNumber buildPair checkOf utcFields countOf cmpOf eqOf distanceOf
+    marked fractionText clockText minutesText offsetText fieldsText textOf offsetBytes varuints fieldCount fractionBytes bodyFrom
+    bodyOf header valueOf decodeOffset decodeFields decodeFraction filled precisionWith decodeBody pairFrom same isBodyOf readBody
+    readAfter readLength readValue
 examples = refl

@@ -1,11 +1,9 @@
 -- Laws of offsets: which sums of them fit an i32, and raw numbers and offsets both ways. Assumes nothing.
-use mathlib.Core.Path.{_≡_, refl, sym, ap, _∙_}
-use mathlib.Core.Bool.{Bool, true, false, cond}
+use mathlib.Core.Path.{_≡_, refl, ap}
 use Prim.Native.Nat.{ℕ, zero, suc, _^_, _<_}
 use native.Mathlib.Omega.{arith}
 use lib.IntN.{ℤ, pos, natAbs, negℤ, _+ℤ_, _-ℤ_}
-use borrow.Author.Tests.{ne-eqb, eqb-true}
-use lib.Dec.{eqb}
+use borrow.Author.Tests.{ne-eqb}
 use mir.Syntax.{w32}
 use mir.Val.{SFits}
 use Rattle.integers.specs.Floor.{_plus_}
@@ -13,7 +11,6 @@ use Rattle.integers.proofs.Parts.{IsNatural, apart, parts-eq, abs-fits, natAbs-
 use Rattle.integers.proofs.Signs.{size-neg}
 use Rattle.ion.specs.Pair.Offset.{offsetMinutes, minutesOf, rawOffset, rawOf, offsetOf, WithinDay}
 use Rattle.ion.specs.declared.offset.RawOffset.{RawOffset}
-use Rattle.ion.specs.declared.offset.OffsetMinutes.{OffsetMinutes}
 use Rattle.ion.specs.declared.offset.Offset.{Offset}
 use Rattle.ion.specs.declared.offset.Offset.the-variants.{Unknown, Known}
 
@@ -45,20 +42,6 @@ raw-below z h = omega (arith, natAbs-parts z, plus-parts 1440 z (omega (arith, n
 pub raw-lt : (o : Offset) → WithinDay o → rawOf o .0 < 2880
 raw-lt Unknown h = omega arith
 raw-lt (Known m) h = raw-below (m .0) h .1
-
--- 0 is the raw number of the unknown offset, and of no other
-pub raw-zero : (r : RawOffset) → offsetOf r ≡ Unknown → r .0 ≡ 0
-raw-zero r e = go (eqb (r .0) 0) refl e
-  where
-    go : (t : Bool) → eqb (r .0) 0 ≡ t → cond t Unknown (Known (offsetMinutes (pos (r .0) -ℤ pos 1440))) ≡ Unknown → r .0 ≡ 0
-    go true q e = eqb-true (r .0) 0 q
-    go false q e = absurd (let z : _≡_ {A = ℕ} 0 1 = cc in omega arith)
-
-pub raw-some : (r : RawOffset) (m : OffsetMinutes) → offsetOf r ≡ Known m → r .0 ≡ 0 → ⊥
-raw-some r m e z =
-    let u : offsetOf (rawOffset 0) ≡ Known m = ap (λ (n : ℕ). offsetOf (rawOffset n)) (sym z) ∙ e in
-    let y : _≡_ {A = ℕ} 0 1 = cc in
-    omega arith
 
 -- an offset through its raw number and back
 pub raw-and-back : (o : Offset) → WithinDay o → offsetOf (rawOf o) ≡ o

@@ -132,7 +132,9 @@ unfolding placesOn places
 places-stored b f d l at n v i q e et el =
     let z : at - at ≡ 0 = omega arith in
     over-is d l at (places b f n v) et
-    (rw (e, z) at el ∙ sym (places-append b f n v [] (drop (at + n) d)) ∙ ap (λ (m : ℕ). places b f n v ++ drop (at + m) d) (sym (length-places b f n v)))
+    (rw (e, z) at el
+    ∙ sym (places-append b f n v [] (drop (at + n) d))
+    ∙ ap (λ (m : ℕ). places b f n v ++ drop (at + m) d) (sym (length-places b f n v)))
 
 -- the loop part way: the places of q in front of index i, with what l has from there on, are the n places of v with what d has after them
 pub record Storing (b : ℕ) (f : ℕ → ℕ) (d : List ℕ) (at n v : ℕ) (l : List ℕ) (i q : ℕ) : Type 0 where

@@ -1,5 +1,5 @@
 -- The laws of the packed word, each an instance of one over every list of widths. Assumes nothing.
-use mathlib.Core.Path.{_≡_, refl, sym, ap, _∙_}
+use mathlib.Core.Path.{_≡_, refl, ap, _∙_}
 use Prim.Native.Nat.{ℕ, _%_, _^_, _<_}
 use native.Mathlib.Nat.{mod-eq-of-lt}
 use native.Mathlib.Omega.{arith}
@@ -73,10 +73,6 @@ word-lt f h = join-lt widths (valuesOf f) h
 pub word-low : (f : Fields) → InRange f → wordOf f % 2 ^ 4 ≡ 0
 unfolding wordOf
 word-low f h = omega arith
-
--- fields with equal words are equal
-pub fields-inj : (f g : Fields) → InRange f → InRange g → wordOf f ≡ wordOf g → f ≡ g
-fields-inj f g hf hg e = sym (unpack-pack f hf) ∙ ap fieldsOf e ∙ unpack-pack g hg
 
 -- the order of words is the order of the fields, high to low
 pub word-before : (f g : Fields) → InRange f → InRange g → Before (valuesOf f) (valuesOf g) → wordOf f < wordOf g

@@ -132,12 +132,6 @@ returns-3 c =
 pub list-spec : {M : Type 1} → statement M
 list-spec =
     tie.close
-    (tie.spec
-    Inv-loop
-    μ-loop
-    (λ c κs. search needs) (λ c. search needs) returns
-    (λ c. start _ _)
-    (λ c. search needs) (λ c. search needs) (λ c. search needs) (λ c κs. search needs)
-    put-stop-requires-2 same-length-2 returns-2
-    put-text-requires add-at loop-less loop-again
-    (λ c. c .before .loop .inv .size) returns-3)
+    (tie.spec Inv-loop μ-loop (λ c κs. search needs) (λ c. search needs) returns (λ c. start _ _)
+    (λ c. search needs) (λ c. search needs) (λ c. search needs) (λ c κs. search needs) put-stop-requires-2 same-length-2 returns-2
+    put-text-requires add-at loop-less loop-again (λ c. c .before .loop .inv .size) returns-3)

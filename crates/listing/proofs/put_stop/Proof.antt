@@ -42,8 +42,5 @@ returns c =
 pub put-stop-spec : {M : Type 1} → statement M
 put-stop-spec =
     tie.close
-    (tie.spec
-    (λ c. search needs) (λ c κs. search needs)
-    (λ c. search needs) put-padded-requires
-    (λ c. search needs) copy-in-requires-2
+    (tie.spec (λ c. search needs) (λ c κs. search needs) (λ c. search needs) put-padded-requires (λ c. search needs) copy-in-requires-2
     add-result (λ c. search needs) returns)

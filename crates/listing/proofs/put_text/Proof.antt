@@ -42,7 +42,4 @@ returns c =
 pub put-text-spec : {M : Type 1} → statement M
 put-text-spec =
     tie.close
-    (tie.spec
-    (λ c κs. search needs) text-into-requires
-    (λ c. search needs) copy-in-requires
-    add-result (λ c. search needs) returns)
+    (tie.spec (λ c κs. search needs) text-into-requires (λ c. search needs) copy-in-requires add-result (λ c. search needs) returns)

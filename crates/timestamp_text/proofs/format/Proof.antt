@@ -68,13 +68,5 @@ returns-3 c =
 pub format-spec : {M : Type 1} → statement M
 format-spec =
     tie.close
-    (tie.spec
-    (λ c κs. search needs)
-    returns
-    (λ c κs. search needs)
-    (λ c κs. search needs)
-    (λ c κs. search needs)
-    returns-2
-    text-into-requires
-    (λ c. search needs)
-    returns-3)
+    (tie.spec (λ c κs. search needs) returns (λ c κs. search needs) (λ c κs. search needs) (λ c κs. search needs) returns-2
+    text-into-requires (λ c. search needs) returns-3)

@@ -149,8 +149,7 @@ returns-5 c =
 pub text-into-spec : {M : Type 1} → statement M
 text-into-spec =
     tie.close
-    (tie.spec
-    put-four-requires put-byte-requires (λ c. search needs) returns
+    (tie.spec put-four-requires put-byte-requires (λ c. search needs) returns
     format-year-and-month-requires put-byte-requires-2 (λ c. search needs) returns-2
     format-date-requires put-byte-requires-3 (λ c. search needs) returns-3
     format-date-hour-and-minute-requires format-offset-requires (λ c. search needs) returns-4

@@ -22,11 +22,5 @@ returns-6 c =
 pub text-length-spec : {M : Type 1} → statement M
 text-length-spec =
     tie.close
-    (tie.spec
-    (λ c. search eq-eqb)
-    (λ c. search (eq-eqb, ne-eqb))
-    (λ c. search (eq-eqb, ne-eqb))
-    (λ c. search (eq-eqb, ne-eqb))
-    (λ c. search (eq-eqb, ne-eqb))
-    (λ c. search needs)
-    returns-6)
+    (tie.spec (λ c. search eq-eqb) (λ c. search (eq-eqb, ne-eqb)) (λ c. search (eq-eqb, ne-eqb)) (λ c. search (eq-eqb, ne-eqb))
+    (λ c. search (eq-eqb, ne-eqb)) (λ c. search needs) returns-6)

@@ -40,10 +40,5 @@ returns-2 c =
 pub encode-decimal-spec : {M : Type 1} → statement M
 encode-decimal-spec =
     tie.close
-    (tie.spec
-    (λ c κs. search needs)
-    (λ c κs. search needs)
-    (λ c. asked-refused (asked (c .before .before)) (c .if1 .taken))
-    put-decimal-requires
-    (λ c. search needs)
-    returns-2)
+    (tie.spec (λ c κs. search needs) (λ c κs. search needs) (λ c. asked-refused (asked (c .before .before)) (c .if1 .taken))
+    put-decimal-requires (λ c. search needs) returns-2)

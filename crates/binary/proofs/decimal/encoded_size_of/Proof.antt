@@ -40,11 +40,4 @@ returns-2 c =
 pub encoded-size-of-spec : {M : Type 1} → statement M
 encoded-size-of-spec =
     tie.close
-    (tie.spec
-    (λ c κs. search needs)
-    (λ c κs. search needs)
-    returns
-    (λ c κs. search needs)
-    (λ c κs. search needs)
-    add-result
-    returns-2)
+    (tie.spec (λ c κs. search needs) (λ c κs. search needs) returns (λ c κs. search needs) (λ c κs. search needs) add-result returns-2)

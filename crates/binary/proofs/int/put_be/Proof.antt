@@ -16,15 +16,6 @@ abbrev μ-loop : tie.MeasureT-loop
 pub put-be-spec : {M : Type 1} → statement M
 put-be-spec =
     tie.close
-    (tie.spec
-    Inv-loop
-    μ-loop
-    (λ c. search needs)
-    (λ c. storing-none 256 plain _ _ _ _ _ refl)
-    (λ c. search needs)
-    (λ c. search needs)
-    (λ c. search needs)
-    (λ c. search needs)
-    (λ c. storing-next (c .before .loop .inv) (c .loop-test .taken) (c .before .before .pre))
-    (λ c. c .before .loop .inv .size)
-    (λ c. storing-all (c .before .loop .inv) (c .loop-test .left)))
+    (tie.spec Inv-loop μ-loop (λ c. search needs) (λ c. storing-none 256 plain _ _ _ _ _ refl) (λ c. search needs) (λ c. search needs)
+    (λ c. search needs) (λ c. search needs) (λ c. storing-next (c .before .loop .inv) (c .loop-test .taken) (c .before .before .pre))
+    (λ c. c .before .loop .inv .size) (λ c. storing-all (c .before .loop .inv) (c .loop-test .left)))

@@ -83,19 +83,5 @@ returns-4 c =
 pub read-u64-spec : {M : Type 1} → statement M
 read-u64-spec =
     tie.close
-    (tie.spec
-    Inv-loop
-    μ-loop
-    returns
-    loop-holds
-    returns-2
-    (λ c. search needs)
-    (λ c. search needs)
-    cast-v
-    add-v
-    (λ c. search needs)
-    (λ c. search needs)
-    loop-again
-    (λ c κs. search needs)
-    returns-3
-    returns-4)
+    (tie.spec Inv-loop μ-loop returns loop-holds returns-2 (λ c. search needs) (λ c. search needs) cast-v add-v (λ c. search needs)
+    (λ c. search needs) loop-again (λ c κs. search needs) returns-3 returns-4)

@@ -22,10 +22,5 @@ returns-2 c =
 pub write-u64-spec : {M : Type 1} → statement M
 write-u64-spec =
     tie.close
-    (tie.spec
-    (λ c κs. search needs)
-    (λ c κs. search needs)
-    (λ c. asked-refused (asked (c .before .before)) (c .if1 .taken))
-    (λ c κs. asked-room (asked (c .before .before .before)) (c .before .if1 .left))
-    (λ c. search needs)
-    returns-2)
+    (tie.spec (λ c κs. search needs) (λ c κs. search needs) (λ c. asked-refused (asked (c .before .before)) (c .if1 .taken))
+    (λ c κs. asked-room (asked (c .before .before .before)) (c .before .if1 .left)) (λ c. search needs) returns-2)

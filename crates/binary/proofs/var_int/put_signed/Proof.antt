@@ -59,12 +59,4 @@ returns-2 c =
 pub put-signed-spec : {M : Type 1} → statement M
 put-signed-spec =
     tie.close
-    (tie.spec
-    put-groups-requires
-    slice-read-buf
-    add-buf
-    slice-write-buf
-    (λ c. search needs)
-    returns
-    (λ c. search needs)
-    returns-2)
+    (tie.spec put-groups-requires slice-read-buf add-buf slice-write-buf (λ c. search needs) returns (λ c. search needs) returns-2)

@@ -91,20 +91,6 @@ returns-7 c = numbered varIntAnswer (sym (whole (c .before .before) ∙ ap (ifSh
 pub read-i64-spec : {M : Type 1} → statement M
 read-i64-spec =
     tie.close
-    (tie.spec
-    returns
-    (λ c. search needs)
-    (λ c. search needs)
-    returns-2
-    returns-3
-    (λ c. search needs)
-    (λ c κs. search needs)
-    read-groups-requires
-    (λ c. search needs)
-    (λ c κs. search needs)
-    (λ c. search needs)
-    (λ c. search needs)
-    returns-4
-    returns-5
-    returns-6
+    (tie.spec returns (λ c. search needs) (λ c. search needs) returns-2 returns-3 (λ c. search needs) (λ c κs. search needs)
+    read-groups-requires (λ c. search needs) (λ c κs. search needs) (λ c. search needs) (λ c. search needs) returns-4 returns-5 returns-6
     returns-7)

@@ -25,10 +25,5 @@ returns-2 c =
 pub write-parts-spec : {M : Type 1} → statement M
 write-parts-spec =
     tie.close
-    (tie.spec
-    (λ c κs. search needs)
-    (λ c κs. search needs)
-    (λ c. asked-refused (asked (c .before .before)) (c .if1 .taken))
-    put-signed-requires
-    (λ c. search needs)
-    returns-2)
+    (tie.spec (λ c κs. search needs) (λ c κs. search needs) (λ c. asked-refused (asked (c .before .before)) (c .if1 .taken))
+    put-signed-requires (λ c. search needs) returns-2)

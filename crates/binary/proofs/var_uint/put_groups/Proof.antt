@@ -34,19 +34,6 @@ returns c =
 pub put-groups-spec : {M : Type 1} → statement M
 put-groups-spec =
     tie.close
-    (tie.spec
-    Inv-loop
-    μ-loop
-    (λ c. search needs)
-    (λ c. search needs)
-    (λ c. search needs)
-    (λ c. search needs)
-    (λ c. search needs)
-    (λ c. storing-none 128 plain _ _ _ _ _ (omega arith))
-    (λ c. search needs)
-    (λ c. search needs)
-    (λ c. omega (arith, long (c .before), c .before .loop .inv .to))
-    (λ c. search needs)
-    loop-again
-    (λ c. long (c .before))
-    returns)
+    (tie.spec Inv-loop μ-loop (λ c. search needs) (λ c. search needs) (λ c. search needs) (λ c. search needs) (λ c. search needs)
+    (λ c. storing-none 128 plain _ _ _ _ _ (omega arith)) (λ c. search needs) (λ c. search needs)
+    (λ c. omega (arith, long (c .before), c .before .loop .inv .to)) (λ c. search needs) loop-again (λ c. long (c .before)) returns)

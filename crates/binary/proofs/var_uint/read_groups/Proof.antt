@@ -83,21 +83,5 @@ returns-4 c =
 pub read-groups-spec : {M : Type 1} → statement M
 read-groups-spec =
     tie.close
-    (tie.spec
-    Inv-loop
-    μ-loop
-    loop-holds
-    returns
-    (λ c. search needs)
-    (λ c. search needs)
-    (λ c κs. search needs)
-    returns-2
-    (λ c. search needs)
-    returns-3
-    mul-v
-    (λ c. search needs)
-    add-v
-    (λ c. search needs)
-    (λ c. search needs)
-    loop-again
-    returns-4)
+    (tie.spec Inv-loop μ-loop loop-holds returns (λ c. search needs) (λ c. search needs) (λ c κs. search needs) returns-2
+    (λ c. search needs) returns-3 mul-v (λ c. search needs) add-v (λ c. search needs) (λ c. search needs) loop-again returns-4)

@@ -29,10 +29,5 @@ returns-2 c =
 pub write-u64-spec : {M : Type 1} → statement M
 write-u64-spec =
     tie.close
-    (tie.spec
-    (λ c κs. search needs)
-    (λ c κs. search needs)
-    (λ c. asked-refused (asked (c .before .before)) (c .if1 .taken))
-    put-groups-requires
-    (λ c. search needs)
-    returns-2)
+    (tie.spec (λ c κs. search needs) (λ c κs. search needs) (λ c. asked-refused (asked (c .before .before)) (c .if1 .taken))
+    put-groups-requires (λ c. search needs) returns-2)

@@ -14,9 +14,6 @@ returns c =
 pub half-at-spec : {M : Type 1} → statement M
 half-at-spec =
     tie.close
-    (tie.spec
-    (λ c κs. search needs)
-    (λ c. search needs) (λ c κs. search needs)
-    (λ c. search needs) (λ c κs. search needs)
+    (tie.spec (λ c κs. search needs) (λ c. search needs) (λ c κs. search needs) (λ c. search needs) (λ c κs. search needs)
     (λ c. search needs) (λ c κs. search needs)
     (λ c. search needs) (λ c. search needs) (λ c. search needs) (λ c. search needs) (λ c. search needs) (λ c. search needs) returns)

@@ -24,6 +24,4 @@ returns-2 c =
 pub signed-half-spec : {M : Type 1} → statement M
 signed-half-spec =
     tie.close
-    (tie.spec
-    (λ c. search needs) (λ c. simp (lt-ltb _ _ (c .if1 .taken)))
-    (λ c. search needs) (λ c. search needs) sub-result-2 returns-2)
+    (tie.spec (λ c. search needs) (λ c. simp (lt-ltb _ _ (c .if1 .taken))) (λ c. search needs) (λ c. search needs) sub-result-2 returns-2)

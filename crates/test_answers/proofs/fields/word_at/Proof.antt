@@ -11,8 +11,5 @@ returns c = rw (c .before .half-at .ensures, c .half-at2 .ensures)
 pub word-at-spec : {M : Type 1} → statement M
 word-at-spec =
     tie.close
-    (tie.spec
-    (λ c κs. search needs)
-    (λ c. search needs) (λ c. search needs) (λ c. search needs)
-    (λ c κs. search needs)
+    (tie.spec (λ c κs. search needs) (λ c. search needs) (λ c. search needs) (λ c. search needs) (λ c κs. search needs)
     (λ c. search needs) (λ c. search needs) returns)

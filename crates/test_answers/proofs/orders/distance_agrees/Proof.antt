@@ -33,6 +33,5 @@ returns c =
 pub distance-agrees-spec : {M : Type 1} → statement M
 distance-agrees-spec =
     tie.close
-    (tie.spec
-    (λ c κs. search needs) (λ c κs. search needs) (λ c κs. search needs)
+    (tie.spec (λ c κs. search needs) (λ c κs. search needs) (λ c κs. search needs)
     (λ c κs. search needs) (λ c κs. search needs) (λ c κs. search needs) (λ c κs. search needs) returns)

@@ -29,7 +29,5 @@ returns-2 c =
 pub read-agrees-spec : {M : Type 1} → statement M
 read-agrees-spec =
     tie.close
-    (tie.spec
-    returns
-    (λ c. search needs) (λ c. search needs) (λ c. search needs) (λ c κs. search needs)
+    (tie.spec returns (λ c. search needs) (λ c. search needs) (λ c. search needs) (λ c κs. search needs)
     (λ c κs. search needs) (λ c κs. search needs) returns-2)

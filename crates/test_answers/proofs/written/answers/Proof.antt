@@ -17,11 +17,5 @@ slice-aggregate-holds c =
 pub answers-spec : {M : Type 1} → statement M
 answers-spec =
     tie.close
-    (tie.spec
-    (λ c κs. search needs)
-    (λ c. search needs)
-    slice-aggregate-write
-    (λ c κs. search needs)
-    slice-aggregate-holds
-    (λ c κs. search needs)
-    (λ c. search needs))
+    (tie.spec (λ c κs. search needs) (λ c. search needs) slice-aggregate-write (λ c κs. search needs) slice-aggregate-holds
+    (λ c κs. search needs) (λ c. search needs))

@@ -26,7 +26,5 @@ returns-3 c =
 pub build-hour-spec : {M : Type 1} → statement M
 build-hour-spec =
     tie.close
-    (tie.spec
-    (λ c κs. search needs) returns
-    (λ c κs. search needs) (λ c κs. search needs) returns-2
+    (tie.spec (λ c κs. search needs) returns (λ c κs. search needs) (λ c κs. search needs) returns-2
     (λ c κs. search needs) (λ c κs. search needs) returns-3)

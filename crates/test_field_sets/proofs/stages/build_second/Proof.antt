@@ -37,7 +37,4 @@ returns-2 c =
 pub build-second-spec : {M : Type 1} → statement M
 build-second-spec =
     tie.close
-    (tie.spec
-    (λ c κs. search needs)
-    (λ c κs. search needs) returns
-    (λ c κs. search needs) (λ c κs. search needs) returns-2)
+    (tie.spec (λ c κs. search needs) (λ c κs. search needs) returns (λ c κs. search needs) (λ c κs. search needs) returns-2)

@@ -51,8 +51,5 @@ returns-4 c =
 pub build-staged-spec : {M : Type 1} → statement M
 build-staged-spec =
     tie.close
-    (tie.spec
-    (λ c κs. search needs) (λ c κs. search needs) returns
-    (λ c κs. search needs) (λ c κs. search needs) returns-2
-    (λ c κs. search needs) (λ c κs. search needs) returns-3
-    (λ c κs. search needs) returns-4)
+    (tie.spec (λ c κs. search needs) (λ c κs. search needs) returns (λ c κs. search needs) (λ c κs. search needs) returns-2
+    (λ c κs. search needs) (λ c κs. search needs) returns-3 (λ c κs. search needs) returns-4)

@@ -22,9 +22,7 @@ by-decimal c =
 pub set-fraction-spec : {M : Type 1} → statement M
 set-fraction-spec =
     tie.close
-    (tie.spec
-    (λ c κs. search needs) (λ c. rw (c .before .if1 .taken) (c .with-milliseconds .ensures))
+    (tie.spec (λ c κs. search needs) (λ c. rw (c .before .if1 .taken) (c .with-milliseconds .ensures))
     (λ c κs. search needs) (λ c. rw (c .before .if2 .taken) (c .with-microseconds .ensures))
     (λ c κs. search needs) (λ c. rw (c .before .if3 .taken) (c .with-nanoseconds .ensures))
-    (λ c κs. search needs) (λ c. rw (c .before .if4 .taken) (c .with-nanoseconds-and-precision .ensures))
-    (λ c κs. search needs) by-decimal)
+    (λ c κs. search needs) (λ c. rw (c .before .if4 .taken) (c .with-nanoseconds-and-precision .ensures)) (λ c κs. search needs) by-decimal)

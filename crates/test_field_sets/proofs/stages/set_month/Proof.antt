@@ -6,6 +6,5 @@ use Rattle.test_field_sets.proofs.stages.set_month.Tie as tie
 pub set-month-spec : {M : Type 1} → statement M
 set-month-spec =
     tie.close
-    (tie.spec
-    (λ c κs. search needs) (λ c. rw (c .before .if1 .taken) (c .with-month0 .ensures))
+    (tie.spec (λ c κs. search needs) (λ c. rw (c .before .if1 .taken) (c .with-month0 .ensures))
     (λ c κs. search needs) (λ c. rw (c .before .if1 .left) (c .with-month .ensures)))

@@ -21,7 +21,6 @@ returns-3 c =
 pub record-at-spec : {M : Type 1} → statement M
 record-at-spec =
     tie.close
-    (tie.spec
-    (λ c. search needs) (λ c. search needs)
+    (tie.spec (λ c. search needs) (λ c. search needs)
     (λ c. search needs) (λ c κs. search needs) (λ c. search needs) (λ c. search needs) (λ c. search needs)
     (λ c. search needs) (λ c. search needs) (λ c. search needs) (λ c. search needs) (λ c. search needs) (λ c κs. search needs) returns-3)

@@ -25,21 +25,7 @@ inside c =
 pub count-cases-spec : {M : Type 1} → statement M
 count-cases-spec =
     tie.close
-    (tie.spec
-    Inv-loop
-    μ-loop
-    (λ c. omega arith)
-    (λ c κs. omega arith) (λ c. search needs) (λ c. omega arith)
-    (λ c. omega arith)
-    (λ c. omega (arith, inside (c .before)))
-    (λ c. omega arith)
-    (λ c. omega arith)
-    (λ c. omega arith)
-    (λ c. omega arith)
-    (λ c. omega (arith, inside (c .before .before)))
-    (λ c κs. tt)
-    (λ c κs. tt)
-    (λ c. omega arith)
-    (λ c. omega arith)
-    (λ c. omega (arith, inside (c .before .before .before .before .before), c .one-if .ensures))
-    (λ c. omega arith))
+    (tie.spec Inv-loop μ-loop (λ c. omega arith) (λ c κs. omega arith) (λ c. search needs) (λ c. omega arith) (λ c. omega arith)
+    (λ c. omega (arith, inside (c .before))) (λ c. omega arith) (λ c. omega arith) (λ c. omega arith) (λ c. omega arith)
+    (λ c. omega (arith, inside (c .before .before))) (λ c κs. tt) (λ c κs. tt) (λ c. omega arith) (λ c. omega arith)
+    (λ c. omega (arith, inside (c .before .before .before .before .before), c .one-if .ensures)) (λ c. omega arith))

@@ -25,16 +25,6 @@ inside c =
 pub count-sources-spec : {M : Type 1} → statement M
 count-sources-spec =
     tie.close
-    (tie.spec
-    Inv-loop
-    μ-loop
-    (λ c. omega arith)
-    (λ c κs. omega arith) (λ c. search needs) (λ c. omega arith)
-    (λ c. omega arith)
-    (λ c. omega (arith, inside (c .before)))
-    (λ c κs. omega (arith, inside (c .before)))
-    (λ c. omega arith)
-    (λ c. omega arith)
-    (λ c. omega arith)
-    (λ c. omega arith)
-    (λ c. omega arith))
+    (tie.spec Inv-loop μ-loop (λ c. omega arith) (λ c κs. omega arith) (λ c. search needs) (λ c. omega arith) (λ c. omega arith)
+    (λ c. omega (arith, inside (c .before))) (λ c κs. omega (arith, inside (c .before))) (λ c. omega arith) (λ c. omega arith)
+    (λ c. omega arith) (λ c. omega arith) (λ c. omega arith))

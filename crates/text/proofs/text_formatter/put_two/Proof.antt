@@ -51,14 +51,5 @@ slice-write-buf-2 c = simp length-set (omega arith)
 pub put-two-spec : {M : Type 1} → statement M
 put-two-spec =
     tie.close
-    (tie.spec
-    (λ c. search needs)
-    (λ c. search needs)
-    (λ c. search needs)
-    (λ c. search needs)
-    (λ c. search needs)
-    (λ c. search needs)
-    slice-write-buf-2
-    (λ c. search needs)
-    (λ c. search needs)
-    returns)
+    (tie.spec (λ c. search needs) (λ c. search needs) (λ c. search needs) (λ c. search needs) (λ c. search needs) (λ c. search needs)
+    slice-write-buf-2 (λ c. search needs) (λ c. search needs) returns)

@@ -54,13 +54,5 @@ returns-2 c =
 pub encode-timestamp-spec : {M : Type 1} → statement M
 encode-timestamp-spec =
     tie.close
-    (tie.spec
-    (λ c κs. search needs)
-    returns
-    (λ c. search needs)
-    put-body-requires
-    array-share-prefix-bytes
-    slice-aggregate-put-bytes
-    (λ c κs. search needs)
-    (λ c. search needs)
-    returns-2)
+    (tie.spec (λ c κs. search needs) returns (λ c. search needs) put-body-requires array-share-prefix-bytes slice-aggregate-put-bytes
+    (λ c κs. search needs) (λ c. search needs) returns-2)

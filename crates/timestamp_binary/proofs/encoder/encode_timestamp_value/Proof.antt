@@ -84,27 +84,7 @@ returns-3 c =
 pub encode-timestamp-value-spec : {M : Type 1} → statement M
 encode-timestamp-value-spec =
     tie.close
-    (tie.spec
-    (λ c κs. search needs)
-    returns
-    (λ c. search needs)
-    put-body-requires
-    (λ c. search needs)
-    (λ c. search needs)
-    (λ c. search needs)
-    (λ c. search needs)
-    (λ c. search needs)
-    (λ c. search needs)
-    part-put-bytes-end
-    (λ c κs. search needs)
-    (λ c. search needs)
-    returns-2
-    (λ c. search needs)
-    cast-bytes-2
-    add-bytes-2
-    (λ c. search needs)
-    array-share-prefix-bytes
-    slice-aggregate-put-bytes
-    (λ c κs. search needs)
-    (λ c. search needs)
-    returns-3)
+    (tie.spec (λ c κs. search needs) returns (λ c. search needs) put-body-requires (λ c. search needs) (λ c. search needs)
+    (λ c. search needs) (λ c. search needs) (λ c. search needs) (λ c. search needs) part-put-bytes-end (λ c κs. search needs)
+    (λ c. search needs) returns-2 (λ c. search needs) cast-bytes-2 add-bytes-2 (λ c. search needs) array-share-prefix-bytes
+    slice-aggregate-put-bytes (λ c κs. search needs) (λ c. search needs) returns-3)

@@ -106,13 +106,5 @@ returns c =
 pub put-body-spec : {M : Type 1} → statement M
 put-body-spec =
     tie.close
-    (tie.spec
-    (λ c κs. search needs)
-    utc-fields-requires
-    (λ c κs. search needs)
-    field-count-requires
-    put-offset-requires
-    put-fields-requires
-    put-fraction-requires
-    (λ c. search needs)
-    returns)
+    (tie.spec (λ c κs. search needs) utc-fields-requires (λ c κs. search needs) field-count-requires put-offset-requires put-fields-requires
+    put-fraction-requires (λ c. search needs) returns)

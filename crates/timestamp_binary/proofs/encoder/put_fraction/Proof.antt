@@ -65,12 +65,5 @@ returns-2 c =
 pub put-fraction-spec : {M : Type 1} → statement M
 put-fraction-spec =
     tie.close
-    (tie.spec
-    returns
-    (λ c κs. search needs)
-    div-coefficient
-    (λ c. search needs)
-    sub-put-decimal
-    put-decimal-requires
-    (λ c. search needs)
+    (tie.spec returns (λ c κs. search needs) div-coefficient (λ c. search needs) sub-put-decimal put-decimal-requires (λ c. search needs)
     returns-2)

@@ -75,14 +75,5 @@ returns-2 c =
 pub put-offset-spec : {M : Type 1} → statement M
 put-offset-spec =
     tie.close
-    (tie.spec
-    (λ c. search needs)
-    put-parts-requires
-    (λ c. search needs)
-    (λ c κs. search needs)
-    cast-put-i64
-    put-i64-requires
-    (λ c. search needs)
-    returns
-    (λ c. search needs)
-    returns-2)
+    (tie.spec (λ c. search needs) put-parts-requires (λ c. search needs) (λ c κs. search needs) cast-put-i64 put-i64-requires
+    (λ c. search needs) returns (λ c. search needs) returns-2)

@@ -31,15 +31,5 @@ returns-2 c =
 pub format-offset-spec : {M : Type 1} → statement M
 format-offset-spec =
     tie.close
-    (tie.spec
-    (λ c κs. search needs)
-    (λ c. search needs)
-    (λ c. search needs)
-    (λ c κs. search needs)
-    (λ c. search needs)
-    (λ c. search needs)
-    put-minutes-requires
-    (λ c. search needs)
-    returns
-    (λ c. search needs)
-    returns-2)
+    (tie.spec (λ c κs. search needs) (λ c. search needs) (λ c. search needs) (λ c κs. search needs) (λ c. search needs) (λ c. search needs)
+    put-minutes-requires (λ c. search needs) returns (λ c. search needs) returns-2)

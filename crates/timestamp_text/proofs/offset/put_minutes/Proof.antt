@@ -110,8 +110,6 @@ returns-3 c =
 pub put-minutes-spec : {M : Type 1} → statement M
 put-minutes-spec =
     tie.close
-    (tie.spec
-    (λ c κs. search needs)
-    sub-put-clock cast-put-clock put-clock-requires (λ c. search needs) returns
+    (tie.spec (λ c κs. search needs) sub-put-clock cast-put-clock put-clock-requires (λ c. search needs) returns
     cast-put-clock-2 put-clock-requires-2 (λ c. search needs) returns-2
     (λ c. search needs) (λ c κs. search needs) (λ c. search needs) (λ c. search needs) returns-3)

@@ -55,12 +55,5 @@ returns-2 c =
 pub format-fractional-seconds-spec : {M : Type 1} → statement M
 format-fractional-seconds-spec =
     tie.close
-    (tie.spec
-    returns
-    put-byte-requires
-    (λ c κs. search needs)
-    div-put-digits
-    put-digits-requires
-    (λ c. search needs)
-    (λ c. search needs)
+    (tie.spec returns put-byte-requires (λ c κs. search needs) div-put-digits put-digits-requires (λ c. search needs) (λ c. search needs)
     returns-2)

@@ -58,9 +58,4 @@ returns c =
 pub format-to-fraction-spec : {M : Type 1} → statement M
 format-to-fraction-spec =
     tie.close
-    (tie.spec
-    format-date-hour-and-minute-requires
-    put-marked-requires
-    format-fractional-seconds-requires
-    (λ c. search needs)
-    returns)
+    (tie.spec format-date-hour-and-minute-requires put-marked-requires format-fractional-seconds-requires (λ c. search needs) returns)

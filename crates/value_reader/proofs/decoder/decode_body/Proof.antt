@@ -45,13 +45,5 @@ returns-3 c =
 pub decode-body-spec : {M : Type 1} → statement M
 decode-body-spec =
     tie.close
-    (tie.spec
-    (λ c κs. search needs)
-    (λ c. search needs)
-    signed-offset-requires
-    (λ c κs. search needs)
-    (λ c. search needs)
-    (λ c. search needs)
-    returns
-    returns-2
-    returns-3)
+    (tie.spec (λ c κs. search needs) (λ c. search needs) signed-offset-requires (λ c κs. search needs) (λ c. search needs)
+    (λ c. search needs) returns returns-2 returns-3)

@@ -85,23 +85,6 @@ returns-3 c = passed-all (c .before .loop .inv) (c .loop-test .left)
 pub read-fields-spec : {M : Type 1} → statement M
 read-fields-spec =
     tie.close
-    (tie.spec
-    Inv-loop
-    μ-loop
-    loop-holds
-    (λ c κs. search needs)
-    (λ c. search needs)
-    cast-values
-    (λ c. search needs)
-    not-last
-    add-next
-    (λ c. omega (arith, not-last c))
-    (λ c. omega (arith, not-last c))
-    loop-again
-    (λ c. search needs)
-    (λ c κs. search needs)
-    returns
-    (λ c. search needs)
-    (λ c κs. search needs)
-    returns-2
-    returns-3)
+    (tie.spec Inv-loop μ-loop loop-holds (λ c κs. search needs) (λ c. search needs) cast-values (λ c. search needs) not-last add-next
+    (λ c. omega (arith, not-last c)) (λ c. omega (arith, not-last c)) loop-again (λ c. search needs) (λ c κs. search needs) returns
+    (λ c. search needs) (λ c κs. search needs) returns-2 returns-3)

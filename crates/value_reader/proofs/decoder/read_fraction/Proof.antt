@@ -85,16 +85,5 @@ returns-5 c = sym (whole (c .before .before) ∙ ap (fractionFrom _) (c .enum-to
 pub read-fraction-spec : {M : Type 1} → statement M
 read-fraction-spec =
     tie.close
-    (tie.spec
-    returns
-    (λ c κs. search needs)
-    (λ c. search needs)
-    add-read-coefficient
-    cast-read-coefficient
-    read-coefficient-requires
-    (λ c. search needs)
-    (λ c. search needs)
-    returns-2
-    returns-3
-    returns-4
-    returns-5)
+    (tie.spec returns (λ c κs. search needs) (λ c. search needs) add-read-coefficient cast-read-coefficient read-coefficient-requires
+    (λ c. search needs) (λ c. search needs) returns-2 returns-3 returns-4 returns-5)

@@ -59,12 +59,4 @@ returns-3 c =
 pub signed-offset-spec : {M : Type 1} → statement M
 signed-offset-spec =
     tie.close
-    (tie.spec
-    (λ c. search needs)
-    (λ c κs. search needs)
-    returns
-    returns-2
-    (λ c. search needs)
-    sub-new
-    (λ c κs. search needs)
-    returns-3)
+    (tie.spec (λ c. search needs) (λ c κs. search needs) returns returns-2 (λ c. search needs) sub-new (λ c κs. search needs) returns-3)

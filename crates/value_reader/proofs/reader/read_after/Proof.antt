@@ -30,13 +30,5 @@ returns-2 c =
 pub read-after-spec : {M : Type 1} → statement M
 read-after-spec =
     tie.close
-    (tie.spec
-    (λ c. search needs)
-    (λ c κs. search needs)
-    returns
-    (λ c. search needs)
-    (λ c. search needs)
-    (λ c. search needs)
-    (λ c. search needs)
-    (λ c κs. search needs)
-    returns-2)
+    (tie.spec (λ c. search needs) (λ c κs. search needs) returns (λ c. search needs) (λ c. search needs) (λ c. search needs)
+    (λ c. search needs) (λ c κs. search needs) returns-2)

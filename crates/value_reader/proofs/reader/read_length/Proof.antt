@@ -40,13 +40,5 @@ returns-3 c =
 pub read-length-spec : {M : Type 1} → statement M
 read-length-spec =
     tie.close
-    (tie.spec
-    (λ c κs. search needs)
-    returns
-    (λ c. search needs)
-    (λ c κs. search needs)
-    returns-2
-    (λ c. omega (arith, within c))
-    (λ c. omega (arith, within c))
-    (λ c κs. search needs)
-    returns-3)
+    (tie.spec (λ c κs. search needs) returns (λ c. search needs) (λ c κs. search needs) returns-2 (λ c. omega (arith, within c))
+    (λ c. omega (arith, within c)) (λ c κs. search needs) returns-3)

@@ -84,15 +84,5 @@ returns-3 c =
 pub read-parts-spec : {M : Type 1} → statement M
 read-parts-spec =
     tie.close
-    (tie.spec
-    (λ c κs. search needs)
-    (λ c κs. search needs)
-    returns
-    local-fields-requires
-    (λ c κs. search needs)
-    returns-2
-    pack-requires
-    (λ c. search needs)
-    (λ c κs. search needs)
-    mul
-    returns-3)
+    (tie.spec (λ c κs. search needs) (λ c κs. search needs) returns local-fields-requires (λ c κs. search needs) returns-2 pack-requires
+    (λ c. search needs) (λ c κs. search needs) mul returns-3)

@@ -41,15 +41,5 @@ returns-4 c =
 pub read-value-spec : {M : Type 1} → statement M
 read-value-spec =
     tie.close
-    (tie.spec
-    (λ c κs. search needs)
-    returns
-    (λ c. search needs)
-    (λ c κs. search needs)
-    returns-2
-    (λ c κs. search needs)
-    returns-3
-    (λ c. omega (arith, within (c .before)))
-    (λ c. omega (arith, within (c .before)))
-    (λ c κs. search needs)
-    returns-4)
+    (tie.spec (λ c κs. search needs) returns (λ c. search needs) (λ c κs. search needs) returns-2 (λ c κs. search needs) returns-3
+    (λ c. omega (arith, within (c .before))) (λ c. omega (arith, within (c .before))) (λ c κs. search needs) returns-4)

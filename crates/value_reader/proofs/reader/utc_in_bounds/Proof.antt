@@ -22,9 +22,4 @@ returns c =
 pub utc-in-bounds-spec : {M : Type 1} → statement M
 utc-in-bounds-spec =
     tie.close
-    (tie.spec
-    (λ c κs. search needs)
-    (λ c. omega (arith, c .struct-known6))
-    (λ c κs. search needs)
-    (λ c κs. search needs)
-    returns)
+    (tie.spec (λ c κs. search needs) (λ c. omega (arith, c .struct-known6)) (λ c κs. search needs) (λ c κs. search needs) returns)
