@@ -1,4 +1,4 @@
--- What a C function hands out of an answer: it returns the number, n, and sets the rest through references. Assumes nothing.
+-- What a C function hands out of an answer x: it returns the number, n, and stores the rest through references. Assumes nothing.
 use Prim.Native.Nat.{ℕ}
 use mathlib.Core.Path.{_≡_}
 use mathlib.Core.Bool.{Bool, true, false}
@@ -22,30 +22,30 @@ abbrev pub isKnown : Offset → Bool
 isKnown Unknown = false
 isKnown (Known m) = true
 
-pub record BuiltIs (b : Built) (n w a : ℕ) : Type 0 where
-  pub number : n ≡ b .number
-  pub word : w ≡ wordIn (b .stamp)
-  pub attoseconds : a ≡ b .stamp .attoseconds
+pub record BuiltIs (x : Built) (n w a : ℕ) : Type 0 where
+  pub number : n ≡ x .number
+  pub word : w ≡ wordIn (x .stamp)
+  pub attoseconds : a ≡ x .stamp .attoseconds
 
-pub record FieldIs (f : Field) (n v : ℕ) : Type 0 where
-  pub number : n ≡ f .number
-  pub value : v ≡ f .value
+pub record FieldIs (x : Field) (n v : ℕ) : Type 0 where
+  pub number : n ≡ x .number
+  pub value : v ≡ x .value
 
-pub record AttosecondsIs (f : Attoseconds) (n v : ℕ) : Type 0 where
-  pub number : n ≡ f .number
-  pub value : v ≡ f .value
+pub record AttosecondsIs (x : Attoseconds) (n v : ℕ) : Type 0 where
+  pub number : n ≡ x .number
+  pub value : v ≡ x .value
 
 -- a fraction is not below zero, so its sign is left out
-pub record DecimalIs (f : DecimalField) (n c : ℕ) (e : ℤ) : Type 0 where
-  pub number : n ≡ f .number
-  pub coefficient : c ≡ f .value .coefficient
-  pub exponent : e ≡ f .value .exponent
+pub record DecimalIs (x : DecimalField) (n c : ℕ) (e : ℤ) : Type 0 where
+  pub number : n ≡ x .number
+  pub coefficient : c ≡ x .value .coefficient
+  pub exponent : e ≡ x .value .exponent
 
 -- an unknown offset is not known, with 0 minutes
-pub record OffsetIs (f : OffsetField) (n : ℕ) (k : Bool) (m : ℤ) : Type 0 where
-  pub number : n ≡ f .number
-  pub known : k ≡ isKnown (f .value)
-  pub minutes : m ≡ minutesOf (f .value)
+pub record OffsetIs (x : OffsetField) (n : ℕ) (k : Bool) (m : ℤ) : Type 0 where
+  pub number : n ≡ x .number
+  pub known : k ≡ isKnown (x .value)
+  pub minutes : m ≡ minutesOf (x .value)
 
 pub record OrderedIs (x : Ordered) (n : ℕ) (o : ℤ) : Type 0 where
   pub number : n ≡ x .number
@@ -55,11 +55,11 @@ pub record ComparedIs (x : Compared) (n : ℕ) (e : Bool) : Type 0 where
   pub number : n ≡ x .number
   pub equal : e ≡ x .equal
 
-pub record DistanceIs (d : Distance) (n : ℕ) (z : ℤ) (s a : ℕ) : Type 0 where
-  pub number : n ≡ d .number
-  pub sign : z ≡ d .sign
-  pub seconds : s ≡ d .seconds
-  pub attoseconds : a ≡ d .attoseconds
+pub record DistanceIs (x : Distance) (n : ℕ) (z : ℤ) (s a : ℕ) : Type 0 where
+  pub number : n ≡ x .number
+  pub sign : z ≡ x .sign
+  pub seconds : s ≡ x .seconds
+  pub attoseconds : a ≡ x .attoseconds
 
 pub record WrittenIs (x : Written) (n k : ℕ) : Type 0 where
   pub number : n ≡ x .number

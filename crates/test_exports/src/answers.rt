@@ -1,4 +1,4 @@
-// Answers handed out: the number is returned, the rest is set through references.
+// A pair taken in, and answers handed out: the number is returned, the rest is stored through references.
 use ion::Attoseconds;
 use ion::Built;
 use ion::Compared;
@@ -14,48 +14,49 @@ use ion::offset;
 use ion::offset::Offset;
 ghost use mathlib.Core.Path.{_≡_};
 ghost use Rattle.ion.specs.Pair.Pair.{packedPair};
-ghost use Rattle.test_exports.specs.Answers.{isKnown, BuiltIs, FieldIs, AttosecondsIs, DecimalIs, OffsetIs, OrderedIs, ComparedIs, DistanceIs, WrittenIs, ReadIs};
+ghost use Rattle.test_exports.specs.Answers.{BuiltIs, FieldIs, AttosecondsIs, DecimalIs, isKnown, OffsetIs};
+ghost use Rattle.test_exports.specs.Answers.{OrderedIs, ComparedIs, DistanceIs, WrittenIs, ReadIs};
 
-pub(crate) fn pair(word: u64, attoseconds: u64) -> Timestamp
-    ensures { λ r. ⌜ r ≡ packedPair word attoseconds ⌝ }
+pub(crate) fn pair(w: u64, a: u64) -> Timestamp
+    ensures { λ r. ⌜ r ≡ packedPair w a ⌝ }
 {
     Timestamp {
-        packed_fields: word,
-        attoseconds: attoseconds,
+        packed_fields: w,
+        attoseconds: a,
     }
 }
 
-pub(crate) fn store_built(b: Built, word: &mut u64, attoseconds: &mut u64) -> u32
-    ensures { λ r. ⌜ BuiltIs b r (now (word .exit)) (now (attoseconds .exit)) ⌝ }
+pub(crate) fn store_built(x: Built, word: &mut u64, attoseconds: &mut u64) -> u32
+    ensures { λ r. ⌜ BuiltIs x r (now (word .exit)) (now (attoseconds .exit)) ⌝ }
 {
-    let s = b.stamp;
+    let s = x.stamp;
     *word = s.packed_fields;
     *attoseconds = s.attoseconds;
-    b.number
+    x.number
 }
 
-pub(crate) fn store_field(f: Field, value: &mut u32) -> u32
-    ensures { λ r. ⌜ FieldIs f r (now (value .exit)) ⌝ }
+pub(crate) fn store_field(x: Field, value: &mut u32) -> u32
+    ensures { λ r. ⌜ FieldIs x r (now (value .exit)) ⌝ }
 {
-    *value = f.value;
-    f.number
+    *value = x.value;
+    x.number
 }
 
-pub(crate) fn store_attoseconds(f: Attoseconds, value: &mut u64) -> u32
-    ensures { λ r. ⌜ AttosecondsIs f r (now (value .exit)) ⌝ }
+pub(crate) fn store_attoseconds(x: Attoseconds, value: &mut u64) -> u32
+    ensures { λ r. ⌜ AttosecondsIs x r (now (value .exit)) ⌝ }
 {
-    *value = f.value;
-    f.number
+    *value = x.value;
+    x.number
 }
 
-pub(crate) fn store_decimal(f: DecimalField, coefficient: &mut u64, exponent: &mut i64) -> u32
-    ensures { λ r. ⌜ DecimalIs f r (now (coefficient .exit)) (now (exponent .exit)) ⌝ }
+pub(crate) fn store_decimal(x: DecimalField, coefficient: &mut u64, exponent: &mut i64) -> u32
+    ensures { λ r. ⌜ DecimalIs x r (now (coefficient .exit)) (now (exponent .exit)) ⌝ }
 {
-    let d = f.value;
+    let d = x.value;
     let power = d.exponent;
     *coefficient = d.coefficient;
     *exponent = power;
-    f.number
+    x.number
 }
 
 fn is_known(o: Offset) -> bool
@@ -67,50 +68,50 @@ fn is_known(o: Offset) -> bool
     }
 }
 
-pub(crate) fn store_offset(f: OffsetField, known: &mut bool, minutes: &mut i32) -> u32
-    ensures { λ r. ⌜ OffsetIs f r (now (known .exit)) (now (minutes .exit)) ⌝ }
+pub(crate) fn store_offset(x: OffsetField, known: &mut bool, minutes: &mut i32) -> u32
+    ensures { λ r. ⌜ OffsetIs x r (now (known .exit)) (now (minutes .exit)) ⌝ }
 {
-    let o = f.value;
+    let o = x.value;
     *known = is_known(o);
     *minutes = offset::minutes_of(o).minutes();
-    f.number
+    x.number
 }
 
-pub(crate) fn store_ordered(o: Ordered, order: &mut i32) -> u32
-    ensures { λ r. ⌜ OrderedIs o r (now (order .exit)) ⌝ }
+pub(crate) fn store_ordered(x: Ordered, order: &mut i32) -> u32
+    ensures { λ r. ⌜ OrderedIs x r (now (order .exit)) ⌝ }
 {
-    let way = o.order;
+    let way = x.order;
     *order = way;
-    o.number
+    x.number
 }
 
-pub(crate) fn store_compared(c: Compared, equal: &mut bool) -> u32
-    ensures { λ r. ⌜ ComparedIs c r (now (equal .exit)) ⌝ }
+pub(crate) fn store_compared(x: Compared, equal: &mut bool) -> u32
+    ensures { λ r. ⌜ ComparedIs x r (now (equal .exit)) ⌝ }
 {
-    *equal = c.equal;
-    c.number
+    *equal = x.equal;
+    x.number
 }
 
 pub(crate) fn store_distance(
-    d: Distance,
+    x: Distance,
     sign: &mut i32,
     seconds: &mut u64,
     attoseconds: &mut u64,
 ) -> u32
-    ensures { λ r. ⌜ DistanceIs d r (now (sign .exit)) (now (seconds .exit)) (now (attoseconds .exit)) ⌝ }
+    ensures { λ r. ⌜ DistanceIs x r (now (sign .exit)) (now (seconds .exit)) (now (attoseconds .exit)) ⌝ }
 {
-    let way = d.sign;
+    let way = x.sign;
     *sign = way;
-    *seconds = d.seconds;
-    *attoseconds = d.attoseconds;
-    d.number
+    *seconds = x.seconds;
+    *attoseconds = x.attoseconds;
+    x.number
 }
 
-pub(crate) fn store_written(w: Written, written: &mut usize) -> u32
-    ensures { λ r. ⌜ WrittenIs w r (now (written .exit)) ⌝ }
+pub(crate) fn store_written(x: Written, written: &mut usize) -> u32
+    ensures { λ r. ⌜ WrittenIs x r (now (written .exit)) ⌝ }
 {
-    *written = w.written;
-    w.number
+    *written = x.written;
+    x.number
 }
 
 pub(crate) fn store_read(x: Read, word: &mut u64, attoseconds: &mut u64, taken: &mut usize) -> u32

@@ -43,9 +43,15 @@ pub extern "C" fn timestamp_distance(
     b: u64,
     sign: &mut i32,
     seconds: &mut u64,
-    rest: &mut u64,
+    attoseconds: &mut u64,
 ) -> u32
-    ensures { λ r. ⌜ DistanceIs (distanceOf (packedPair w a) (packedPair v b)) r (now (sign .exit)) (now (seconds .exit)) (now (rest .exit)) ⌝ }
+    ensures { λ r. ⌜ DistanceIs (distanceOf (packedPair w a) (packedPair v b)) r (now (sign .exit)) (now (seconds .exit))
+        (now (attoseconds .exit)) ⌝ }
 {
-    store_distance(order::distance(pair(w, a), pair(v, b)), sign, seconds, rest)
+    store_distance(
+        order::distance(pair(w, a), pair(v, b)),
+        sign,
+        seconds,
+        attoseconds,
+    )
 }

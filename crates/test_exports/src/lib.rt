@@ -1,10 +1,8 @@
 // The library's calls as C functions on numbers and byte slices, for tests. Each returns the number of the call's
-// answer and sets the rest of it through references.
+// answer and stores the rest of it through references.
 mod answers;
 mod building;
 mod comparing;
-mod pairs;
-mod parts;
 mod reading;
 mod shifting;
 mod writing;

@@ -1,4 +1,4 @@
-// What a timestamp tells.
+// The fields of a timestamp.
 use crate::answers::pair;
 use crate::answers::store_attoseconds;
 use crate::answers::store_decimal;
@@ -37,50 +37,35 @@ fn field_by(code: u32, s: Timestamp) -> Field
 }
 
 #[no_mangle]
-pub extern "C" fn timestamp_field(code: u32, word: u64, attoseconds: u64, value: &mut u32) -> u32
-    ensures { λ r. ⌜ FieldIs (fieldBy code (packedPair word attoseconds)) r (now (value .exit)) ⌝ }
+pub extern "C" fn timestamp_field(code: u32, w: u64, a: u64, value: &mut u32) -> u32
+    ensures { λ r. ⌜ FieldIs (fieldBy code (packedPair w a)) r (now (value .exit)) ⌝ }
 {
-    store_field(field_by(code, pair(word, attoseconds)), value)
+    store_field(field_by(code, pair(w, a)), value)
 }
 
 #[no_mangle]
-pub extern "C" fn timestamp_offset(
-    word: u64,
-    attoseconds: u64,
-    known: &mut bool,
-    minutes: &mut i32,
-) -> u32
-    ensures { λ r. ⌜ OffsetIs (offsetFieldOf (packedPair word attoseconds)) r (now (known .exit)) (now (minutes .exit)) ⌝ }
+pub extern "C" fn timestamp_offset(w: u64, a: u64, known: &mut bool, minutes: &mut i32) -> u32
+    ensures { λ r. ⌜ OffsetIs (offsetFieldOf (packedPair w a)) r (now (known .exit)) (now (minutes .exit)) ⌝ }
 {
-    store_offset(
-        timestamp_fields::offset(pair(word, attoseconds)),
-        known,
-        minutes,
-    )
+    store_offset(timestamp_fields::offset(pair(w, a)), known, minutes)
 }
 
 #[no_mangle]
-pub extern "C" fn timestamp_attoseconds(word: u64, attoseconds: u64, value: &mut u64) -> u32
-    ensures { λ r. ⌜ AttosecondsIs (attosecondsFieldOf (packedPair word attoseconds)) r (now (value .exit)) ⌝ }
+pub extern "C" fn timestamp_attoseconds(w: u64, a: u64, value: &mut u64) -> u32
+    ensures { λ r. ⌜ AttosecondsIs (attosecondsFieldOf (packedPair w a)) r (now (value .exit)) ⌝ }
 {
-    store_attoseconds(
-        timestamp_fields::attoseconds(pair(word, attoseconds)),
-        value,
-    )
+    store_attoseconds(timestamp_fields::attoseconds(pair(w, a)), value)
 }
 
 #[no_mangle]
 pub extern "C" fn timestamp_fractional_seconds(
-    word: u64,
-    attoseconds: u64,
+    w: u64,
+    a: u64,
     coefficient: &mut u64,
     exponent: &mut i64,
 ) -> u32
-    ensures { λ r. ⌜ DecimalIs (decimalFieldOf (packedPair word attoseconds)) r (now (coefficient .exit)) (now (exponent .exit)) ⌝ }
+    ensures { λ r. ⌜ DecimalIs (decimalFieldOf (packedPair w a)) r (now (coefficient .exit)) (now (exponent .exit)) ⌝ }
 {
-    store_decimal(
-        timestamp_fields::fractional_seconds_as_decimal(pair(word, attoseconds)),
-        coefficient,
-        exponent,
-    )
+    let x = timestamp_fields::fractional_seconds_as_decimal(pair(w, a));
+    store_decimal(x, coefficient, exponent)
 }

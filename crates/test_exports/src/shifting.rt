@@ -3,7 +3,7 @@ use ion::Date;
 use ion::DateTime;
 use ion::offset::OffsetMinutes;
 ghost use mathlib.Core.Path.{_≡_};
-ghost use Rattle.test_exports.specs.Shifting.{isMovable, movedBy, MovedIs};
+ghost use Rattle.test_exports.specs.Shifting.{dateTime, isMovable, movedBy, MovedIs};
 
 // The number of a shift of no date and time of the years 0 to 10000, or by minutes of no offset: of tests alone.
 const NOT_MOVABLE: u32 = 102;
@@ -47,12 +47,12 @@ fn move_by(t: DateTime, m: OffsetMinutes) -> Moved
     }
 }
 
-fn store_moved(m: Moved, time: &mut [u32; 5]) -> u32
-    ensures { λ r. ⌜ MovedIs m r (now (time .exit)) ⌝ }
+fn store_moved(x: Moved, time: &mut [u32; 5]) -> u32
+    ensures { λ r. ⌜ MovedIs x r (now (time .exit)) ⌝ }
 {
-    let t = m.time;
+    let t = x.time;
     *time = [t.year, t.month, t.day, t.hour, t.minute];
-    m.number
+    x.number
 }
 
 // Year, month, day, hour and minute, moved into `time`.
@@ -66,7 +66,7 @@ pub extern "C" fn add_offset_to_utc(
     offset: i32,
     time: &mut [u32; 5],
 ) -> u32
-    ensures { λ r. ⌜ MovedIs (movedBy (record { year = year; month = month; day = day; hour = hour; minute = minute }) offset) r (now (time .exit)) ⌝ }
+    ensures { λ r. ⌜ MovedIs (movedBy (dateTime year month day hour minute) offset) r (now (time .exit)) ⌝ }
 {
     let t = DateTime {
         year: year,

@@ -9,4 +9,7 @@ returns c =
     rw (o .distance .ensures, o .before .before .pair .ensures, o .before .pair2 .ensures) at (c .store-distance .ensures)
 
 pub timestamp-distance-spec : {M : Type 1} → statement M
-timestamp-distance-spec = tie.close (tie.spec (λ c κs. search needs) (λ c κs. search needs) (λ c κs. search needs) (λ c κs. search needs) returns)
+timestamp-distance-spec =
+    tie.close
+    (tie.spec
+    (λ c κs. search needs) (λ c κs. search needs) (λ c κs. search needs) (λ c κs. search needs) returns)

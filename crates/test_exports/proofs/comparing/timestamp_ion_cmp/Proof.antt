@@ -9,4 +9,7 @@ returns c =
     rw (o .ion-cmp .ensures, o .before .before .pair .ensures, o .before .pair2 .ensures) at (c .store-ordered .ensures)
 
 pub timestamp-ion-cmp-spec : {M : Type 1} → statement M
-timestamp-ion-cmp-spec = tie.close (tie.spec (λ c κs. search needs) (λ c κs. search needs) (λ c κs. search needs) (λ c κs. search needs) returns)
+timestamp-ion-cmp-spec =
+    tie.close
+    (tie.spec
+    (λ c κs. search needs) (λ c κs. search needs) (λ c κs. search needs) (λ c κs. search needs) returns)

@@ -9,4 +9,7 @@ returns c =
     rw (o .ion-eq .ensures, o .before .before .pair .ensures, o .before .pair2 .ensures) at (c .store-compared .ensures)
 
 pub timestamp-ion-eq-spec : {M : Type 1} → statement M
-timestamp-ion-eq-spec = tie.close (tie.spec (λ c κs. search needs) (λ c κs. search needs) (λ c κs. search needs) (λ c κs. search needs) returns)
+timestamp-ion-eq-spec =
+    tie.close
+    (tie.spec
+    (λ c κs. search needs) (λ c κs. search needs) (λ c κs. search needs) (λ c κs. search needs) returns)

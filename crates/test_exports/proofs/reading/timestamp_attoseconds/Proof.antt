@@ -5,8 +5,8 @@ use Rattle.test_exports.proofs.reading.timestamp_attoseconds.Tie as tie
 
 returns : tie.Need-returns
 returns c =
-    let f = c .before .before in
-    rw (f .attoseconds .ensures, f .before .pair .ensures) at (c .store-attoseconds .ensures)
+    let o = c .before .before in
+    rw (o .attoseconds .ensures, o .before .pair .ensures) at (c .store-attoseconds .ensures)
 
 pub timestamp-attoseconds-spec : {M : Type 1} → statement M
 timestamp-attoseconds-spec = tie.close (tie.spec (λ c κs. search needs) (λ c κs. search needs) (λ c κs. search needs) returns)

@@ -5,8 +5,8 @@ use Rattle.test_exports.proofs.reading.timestamp_field.Tie as tie
 
 returns : tie.Need-returns
 returns c =
-    let f = c .before .before in
-    rw (f .field-by .ensures, f .before .pair .ensures) at (c .store-field .ensures)
+    let o = c .before .before in
+    rw (o .field-by .ensures, o .before .pair .ensures) at (c .store-field .ensures)
 
 pub timestamp-field-spec : {M : Type 1} → statement M
 timestamp-field-spec = tie.close (tie.spec (λ c κs. search needs) (λ c κs. search needs) (λ c κs. search needs) returns)

@@ -9,4 +9,7 @@ returns c =
     rw (o .fractional-seconds-as-decimal .ensures, o .before .pair .ensures) at (c .store-decimal .ensures)
 
 pub timestamp-fractional-seconds-spec : {M : Type 1} → statement M
-timestamp-fractional-seconds-spec = tie.close (tie.spec (λ c κs. search needs) (λ c κs. search needs) (λ c κs. search needs) returns)
+timestamp-fractional-seconds-spec =
+    tie.close
+    (tie.spec
+    (λ c κs. search needs) (λ c κs. search needs) (λ c κs. search needs) returns)

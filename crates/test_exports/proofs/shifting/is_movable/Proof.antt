@@ -3,8 +3,9 @@ use borrow.Author.Needs.{needs}
 use Rattle.test_exports.proofs.shifting.is_movable.Statement.{statement}
 use Rattle.test_exports.proofs.shifting.is_movable.Tie as tie
 
-returns : tie.Need-returns
-returns c = rw (c .before .before .before .is-date .ensures, c .is-offset .ensures)
-
 pub is-movable-spec : {M : Type 1} → statement M
-is-movable-spec = tie.close (tie.spec (λ c κs. search needs) (λ c κs. search needs) returns)
+is-movable-spec =
+    tie.close
+    (tie.spec
+    (λ c κs. search needs) (λ c κs. search needs)
+    (λ c. rw (c .before .before .before .is-date .ensures, c .is-offset .ensures)))

@@ -10,4 +10,7 @@ returns c =
     (rw (e .0) at (c .store-written .ensures), e .1)
 
 pub timestamp-body-spec : {M : Type 1} → statement M
-timestamp-body-spec = tie.close (tie.spec (λ c κs. search needs) (λ c κs. search needs) (λ c κs. search needs) (λ c. search needs) returns)
+timestamp-body-spec =
+    tie.close
+    (tie.spec
+    (λ c κs. search needs) (λ c κs. search needs) (λ c κs. search needs) (λ c. search needs) returns)

@@ -1,8 +1,8 @@
--- `test_exports::parts::write_var_int` meets its contract. Assumes nothing.
+-- `test_exports::writing::write_var_int` meets its contract. Assumes nothing.
 use mir.Facts.{toZ-ofZ}
 use borrow.Author.Needs.{needs}
-use Rattle.test_exports.proofs.parts.write_var_int.Statement.{statement}
-use Rattle.test_exports.proofs.parts.write_var_int.Tie as tie
+use Rattle.test_exports.proofs.writing.write_var_int.Statement.{statement}
+use Rattle.test_exports.proofs.writing.write_var_int.Tie as tie
 
 returns : tie.Need-returns
 returns c =

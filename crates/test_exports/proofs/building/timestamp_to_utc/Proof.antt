@@ -1,9 +1,9 @@
--- `test_exports::pairs::timestamp_to_utc` meets its contract. Assumes nothing.
+-- `test_exports::building::timestamp_to_utc` meets its contract. Assumes nothing.
 use mathlib.Core.Path.{ap, _∙_}
 use borrow.Author.Needs.{needs}
 use Rattle.ion.specs.Calls.Utc.{utcOf}
-use Rattle.test_exports.proofs.pairs.timestamp_to_utc.Statement.{statement}
-use Rattle.test_exports.proofs.pairs.timestamp_to_utc.Tie as tie
+use Rattle.test_exports.proofs.building.timestamp_to_utc.Statement.{statement}
+use Rattle.test_exports.proofs.building.timestamp_to_utc.Tie as tie
 
 returns : tie.Need-returns
 returns c =
