@@ -58,12 +58,7 @@ pub extern "C" fn timestamp_read(
 ) -> u32
     ensures { λ r. ⌜ ReadIs (readValue (now (input .entry))) r (now (word .exit)) (now (attoseconds .exit)) (now (taken .exit)) ⌝ }
 {
-    store_read(
-        value_reader::read_value(input),
-        word,
-        attoseconds,
-        taken,
-    )
+    store_read(value_reader::read_value(input), word, attoseconds, taken)
 }
 
 // ---- single numbers

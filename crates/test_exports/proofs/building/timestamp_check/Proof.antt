@@ -6,6 +6,5 @@ use Rattle.test_exports.proofs.building.timestamp_check.Tie as tie
 pub timestamp-check-spec : {M : Type 1} → statement M
 timestamp-check-spec =
     tie.close
-    (tie.spec
-    (λ c κs. search needs) (λ c κs. search needs)
+    (tie.spec (λ c κs. search needs) (λ c κs. search needs)
     (λ c. rw (c .before .before .before .try-from-bits .ensures) at (c .store-built .ensures)))

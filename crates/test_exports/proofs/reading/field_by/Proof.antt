@@ -22,20 +22,14 @@ pub field-by-spec : {M : Type 1} → statement M
 unfolding fieldBy
 field-by-spec =
     tie.close
-    (tie.spec
+    (tie.spec (λ c κs. search needs) (λ c κs. search needs) (λ c κs. search needs) (λ c κs. search needs)
     (λ c κs. search needs) (λ c κs. search needs) (λ c κs. search needs) (λ c κs. search needs)
-    (λ c κs. search needs) (λ c κs. search needs) (λ c κs. search needs) (λ c κs. search needs)
-    (λ c κs. search needs) (λ c κs. search needs) (λ c κs. search needs)
-    (λ c. rw (c .before .match .keys1) (c .year .ensures))
-    (λ c. rw (c .before .match .keys2) (c .month .ensures))
-    (λ c. rw (c .before .match .keys3) (c .day .ensures))
-    (λ c. rw (c .before .match .keys4) (c .hour .ensures))
-    (λ c. rw (c .before .match .keys5) (c .minute .ensures))
-    (λ c. rw (c .before .match .keys6) (c .second .ensures))
-    (λ c. rw (c .before .match .keys7) (c .precision .ensures))
+    (λ c κs. search needs) (λ c κs. search needs) (λ c κs. search needs) (λ c. rw (c .before .match .keys1) (c .year .ensures))
+    (λ c. rw (c .before .match .keys2) (c .month .ensures)) (λ c. rw (c .before .match .keys3) (c .day .ensures))
+    (λ c. rw (c .before .match .keys4) (c .hour .ensures)) (λ c. rw (c .before .match .keys5) (c .minute .ensures))
+    (λ c. rw (c .before .match .keys6) (c .second .ensures)) (λ c. rw (c .before .match .keys7) (c .precision .ensures))
     (λ c. rw (c .before .match .keys8) (c .fractional-seconds-scale .ensures))
-    (λ c. rw (c .before .match .keys9) (c .milliseconds .ensures))
-    (λ c. rw (c .before .match .keys10) (c .microseconds .ensures))
+    (λ c. rw (c .before .match .keys9) (c .milliseconds .ensures)) (λ c. rw (c .before .match .keys10) (c .microseconds .ensures))
     (λ c. rw (c .before .match .keys11) (c .nanoseconds .ensures))
     (λ c. sym (List·getD-eq-default (codedFields (c .before .args .s)) (record { number = unknownCode; value = 0 })
     (none-below 11 (c .before .args .code) (c .match .rest)))))
