@@ -16,6 +16,7 @@ use Rattle.ion.specs.declared.Compared.{Compared}
 use Rattle.test_field_sets.specs.FieldSets.{builtFrom}
 use Rattle.test_answers.specs.Fields.{wordAt, pairAt, signAt, fieldSetAt, isFieldSet}
 
+-- whether two signed numbers are the same
 abbrev pub sameInt : ℤ → ℤ → Bool
 sameInt (pos a) (pos b) = eqb a b
 sameInt (negsuc a) (negsuc b) = eqb a b
@@ -36,14 +37,17 @@ isOrdered a r at = eqb (a .number) (getD r 32 0) && sameInt (a .order) (signAt r
 unfoldable pub isCompared : Compared → List ℕ → ℕ → Bool
 isCompared a r at = eqb (a .number) (getD r 32 0) && eqb (getD r at 0) (cond (a .equal) 1 0)
 
--- ---- whole records
+-- ---- whole records: the call on what stands first, against what stands after it
 
+-- building
 unfoldable pub buildAgrees : List ℕ → Bool
 buildAgrees r = isFieldSet r && isBuilt (builtFrom (fieldSetAt r)) r 48
 
+-- the packed check
 unfoldable pub checkAgrees : List ℕ → Bool
 checkAgrees r = isBuilt (checkOf (pairAt r 0)) r 16
 
+-- the UTC form
 unfoldable pub utcAgrees : List ℕ → Bool
 utcAgrees r = isBuilt (utcOf (pairAt r 0)) r 16
 
@@ -54,12 +58,13 @@ orderAgrees r =
     let t = pairAt r 16 in
     (isOrdered (cmpOf s t) r 33 && isCompared (eqOf s t) r 34) && (isOrdered (ionCmpOf s t) r 35 && isCompared (ionEqOf s t) r 36)
 
+-- the distance
 unfoldable pub distanceAgrees : List ℕ → Bool
 distanceAgrees r =
     let a = distanceOf (pairAt r 0) (pairAt r 16) in
     eqb (a .number) (getD r 32 0) && sameInt (a .sign) (signAt r 33) && eqb (a .seconds) (wordAt r 34) && eqb (a .attoseconds) (wordAt r 42)
 
--- the input stands after the number, the pair, and how many bytes are taken
+-- reading: the input stands after the number, the pair, and how many bytes are taken
 unfoldable pub readAgrees : List ℕ → Bool
 readAgrees r =
     let a = readValue (drop 19 r) in

@@ -22,6 +22,7 @@ wordAt s at = halfAt s at * 2 ^ 32 + halfAt s (at + 4)
 abbrev pub signedOf : ℕ → ℕ → ℤ
 signedOf n x = cond (ltb x (2 ^ (n - 1))) (pos x) (negsuc (2 ^ n - 1 - x))
 
+-- a pair: two such numbers
 unfoldable pub pairAt : List ℕ → ℕ → Timestamp
 pairAt s at = packedPair (wordAt s at) (wordAt s (at + 8))
 

@@ -18,19 +18,23 @@ use Rattle.ion.specs.declared.Distance.{Distance}
 use Rattle.ion.specs.declared.Written.{Written}
 use Rattle.ion.specs.declared.Read.{Read}
 
+-- whether an offset is known
 abbrev pub isKnown : Offset → Bool
 isKnown Unknown = false
 isKnown (Known m) = true
 
+-- a pair
 pub record BuiltIs (x : Built) (n w a : ℕ) : Type 0 where
   pub number : n ≡ x .number
   pub word : w ≡ wordIn (x .stamp)
   pub attoseconds : a ≡ x .stamp .attoseconds
 
+-- a field of 32 bits
 pub record FieldIs (x : Field) (n v : ℕ) : Type 0 where
   pub number : n ≡ x .number
   pub value : v ≡ x .value
 
+-- attoseconds, of 64 bits
 pub record AttosecondsIs (x : Attoseconds) (n v : ℕ) : Type 0 where
   pub number : n ≡ x .number
   pub value : v ≡ x .value
@@ -47,24 +51,29 @@ pub record OffsetIs (x : OffsetField) (n : ℕ) (k : Bool) (m : ℤ) : Type 0 wh
   pub known : k ≡ isKnown (x .value)
   pub minutes : m ≡ minutesOf (x .value)
 
+-- an order: -1, 0 or 1
 pub record OrderedIs (x : Ordered) (n : ℕ) (o : ℤ) : Type 0 where
   pub number : n ≡ x .number
   pub order : o ≡ x .order
 
+-- whether two are equal
 pub record ComparedIs (x : Compared) (n : ℕ) (e : Bool) : Type 0 where
   pub number : n ≡ x .number
   pub equal : e ≡ x .equal
 
+-- a sign, and a size in seconds and attoseconds
 pub record DistanceIs (x : Distance) (n : ℕ) (z : ℤ) (s a : ℕ) : Type 0 where
   pub number : n ≡ x .number
   pub sign : z ≡ x .sign
   pub seconds : s ≡ x .seconds
   pub attoseconds : a ≡ x .attoseconds
 
+-- how many bytes were written
 pub record WrittenIs (x : Written) (n k : ℕ) : Type 0 where
   pub number : n ≡ x .number
   pub written : k ≡ x .written
 
+-- a pair, and how many bytes it took
 pub record ReadIs (x : Read) (n w a k : ℕ) : Type 0 where
   pub number : n ≡ x .number
   pub word : w ≡ wordIn (x .stamp)

@@ -25,5 +25,6 @@ codedFields s =
     ∷ nanosecondsOf s
     ∷ []
 
+-- the field of a code, or the number of a code that stands for nothing
 unfoldable pub fieldBy : ℕ → Timestamp → Field
 fieldBy code s = getD (codedFields s) code (record { number = unknownCode; value = 0 })

@@ -16,6 +16,7 @@ use Rattle.test_exports.specs.declared.shifting.Moved.{Moved}
 abbrev notMovable : ℕ
 notMovable = 102
 
+-- the numbers in a row
 abbrev pub dateTime : ℕ → ℕ → ℕ → ℕ → ℕ → DateTime
 dateTime year month day hour minute = record { year = year; month = month; day = day; hour = hour; minute = minute }
 

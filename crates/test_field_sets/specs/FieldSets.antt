@@ -54,7 +54,7 @@ fractionGiven x =
     (cond (eqb (x .fraction) 4) (nanosecondsTo (x .amount) (x .digits))
     (decimal (record { negative = eqb (x .fraction) 6; coefficient = x .coefficient; exponent = x .exponent })))))
 
--- 0 none
+-- 0 none, else the fraction of the code
 unfoldable pub withFractionGiven : FieldSet → BuilderFields → BuilderFields
 withFractionGiven x f = cond (eqb (x .fraction) 0) f (withFraction f (fractionGiven x))
 
@@ -76,9 +76,11 @@ timeGiven x f =
     cond (eqb (x .stage) 3) (withOffsetGiven (x .offset) (x .minutes) (withHour f (x .hour)))
     (cond (eqb (x .stage) 4) (withOffsetGiven (x .offset) (x .minutes) minute) (secondGiven x minute))
 
+-- a year and a month
 abbrev pub monthGiven : FieldSet → BuilderFields
 monthGiven x = withMonth (withYear (x .year)) (counted (x .month0) (x .month))
 
+-- a date
 abbrev pub dayGiven : FieldSet → BuilderFields
 dayGiven x = withDay (monthGiven x) (counted (x .day0) (x .day))
 

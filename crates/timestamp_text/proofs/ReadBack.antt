@@ -67,25 +67,25 @@ module _ (f : Fields) (a : ℕ) (v : Valid f a) where
         offset = f .offset;
       }
 
-  -- ---- what stands in front of t, up to each field
+  -- ---- the text up to each field, and then t
 
-  abbrev toYear : List ℕ → List ℕ
-  toYear t = lastDigits 4 (f .year) ++ t
+  abbrev yearThen : List ℕ → List ℕ
+  yearThen t = lastDigits 4 (f .year) ++ t
 
-  abbrev toMonth : List ℕ → List ℕ
-  toMonth t = toYear (mark (code "-") (f .month) ++ t)
+  abbrev monthThen : List ℕ → List ℕ
+  monthThen t = yearThen (mark (code "-") (f .month) ++ t)
 
-  abbrev toDay : List ℕ → List ℕ
-  toDay t = toMonth (mark (code "-") (f .day) ++ t)
+  abbrev dayThen : List ℕ → List ℕ
+  dayThen t = monthThen (mark (code "-") (f .day) ++ t)
 
-  abbrev toHour : List ℕ → List ℕ
-  toHour t = toDay (mark (code "T") (f .hour) ++ t)
+  abbrev hourThen : List ℕ → List ℕ
+  hourThen t = dayThen (mark (code "T") (f .hour) ++ t)
 
-  abbrev toMinute : List ℕ → List ℕ
-  toMinute t = toHour (mark (code ":") (f .minute) ++ t)
+  abbrev minuteThen : List ℕ → List ℕ
+  minuteThen t = hourThen (mark (code ":") (f .minute) ++ t)
 
-  abbrev toSecond : List ℕ → List ℕ
-  toSecond t = toMinute (mark (code ":") (f .second) ++ t)
+  abbrev secondThen : List ℕ → List ℕ
+  secondThen t = minuteThen (mark (code ":") (f .second) ++ t)
 
   -- and the fields read from it
 
@@ -95,27 +95,27 @@ module _ (f : Fields) (a : ℕ) (v : Valid f a) where
   abbrev atMinute : BuilderFields
   atMinute = withMinute (withHour atDay (f .hour)) (f .minute)
 
-  read-year : (t : List ℕ) → readText (toYear t) ≡ afterYear (toYear t) (withYear (f .year))
+  read-year : (t : List ℕ) → readText (yearThen t) ≡ afterYear (yearThen t) (withYear (f .year))
   unfolding readText
   read-year t = rw (value-digits 4 (f .year) t (omega arith))
 
-  read-month : (t : List ℕ) → readText (toMonth t) ≡ afterMonth (toMonth t) (withMonth (withYear (f .year)) (f .month))
+  read-month : (t : List ℕ) → readText (monthThen t) ≡ afterMonth (monthThen t) (withMonth (withYear (f .year)) (f .month))
   unfolding places placesOn same markedAt afterYear
   read-month t = read-year (mark (code "-") (f .month) ++ t) ∙ rw (value-digits 2 (f .month) t month-lt)
 
-  read-day : (t : List ℕ) → readText (toDay t) ≡ afterDay (toDay t) atDay
+  read-day : (t : List ℕ) → readText (dayThen t) ≡ afterDay (dayThen t) atDay
   unfolding places placesOn same markedAt afterMonth
   read-day t = read-month (mark (code "-") (f .day) ++ t) ∙ rw (value-digits 2 (f .day) t day-lt)
 
-  read-hour : (t : List ℕ) → readText (toHour t) ≡ afterHour (toHour t) (withHour atDay (f .hour))
+  read-hour : (t : List ℕ) → readText (hourThen t) ≡ afterHour (hourThen t) (withHour atDay (f .hour))
   unfolding places placesOn same markedAt afterDay
   read-hour t = read-day (mark (code "T") (f .hour) ++ t) ∙ rw (value-digits 2 (f .hour) t (omega arith))
 
-  read-minute : (t : List ℕ) → readText (toMinute t) ≡ afterMinute (toMinute t) atMinute
+  read-minute : (t : List ℕ) → readText (minuteThen t) ≡ afterMinute (minuteThen t) atMinute
   unfolding places placesOn markedAt afterHour
   read-minute t = read-hour (mark (code ":") (f .minute) ++ t) ∙ rw (value-digits 2 (f .minute) t (omega arith))
 
-  read-second : (t : List ℕ) → readText (toSecond t) ≡ afterSecond (toSecond t) (withSecond atMinute (f .second))
+  read-second : (t : List ℕ) → readText (secondThen t) ≡ afterSecond (secondThen t) (withSecond atMinute (f .second))
   unfolding places placesOn markedAt afterMinute
   read-second t = read-minute (mark (code ":") (f .second) ++ t) ∙ rw (value-digits 2 (f .second) t (omega arith))
 
@@ -139,29 +139,29 @@ module _ (f : Fields) (a : ℕ) (v : Valid f a) where
   second : marked (code ":") (f .second) ≡ mark (code ":") (f .second)
   second = marked-is (code ":") (f .second) (omega arith)
 
-  year-text : (d : ℕ) → fieldsText (at 0 d) a ≡ toYear (ascii "T")
+  year-text : (d : ℕ) → fieldsText (at 0 d) a ≡ yearThen (ascii "T")
   unfolding fieldsText
   year-text d = rw year
 
-  month-text : (d : ℕ) → fieldsText (at 1 d) a ≡ toMonth (ascii "T")
+  month-text : (d : ℕ) → fieldsText (at 1 d) a ≡ monthThen (ascii "T")
   unfolding fieldsText places placesOn
   month-text d = rw (year, month)
 
-  day-text : (d : ℕ) → fieldsText (at 2 d) a ≡ toDay (ascii "T")
+  day-text : (d : ℕ) → fieldsText (at 2 d) a ≡ dayThen (ascii "T")
   unfolding fieldsText places placesOn
   day-text d = rw (year, month, day)
 
-  minute-text : (d : ℕ) → fieldsText (at 3 d) a ≡ toMinute (offsetText offsetIn)
+  minute-text : (d : ℕ) → fieldsText (at 3 d) a ≡ minuteThen (offsetText offsetIn)
   unfolding fieldsText places placesOn
   minute-text d = rw (year, month, day, hour, minute)
 
-  second-text : (d : ℕ) → fieldsText (at 4 d) a ≡ toSecond (fractionText d a ++ offsetText offsetIn)
+  second-text : (d : ℕ) → fieldsText (at 4 d) a ≡ secondThen (fractionText d a ++ offsetText offsetIn)
   unfolding fieldsText places placesOn
   second-text d = rw (year, month, day, hour, minute, second)
 
   -- ---- a fraction, if there is one, and the offset
 
-  none-read : afterSecond (toSecond (offsetText offsetIn)) (withSecond atMinute (f .second)) ≡ fields (rebuilt (at 4 0) a)
+  none-read : afterSecond (secondThen (offsetText offsetIn)) (withSecond atMinute (f .second)) ≡ fields (rebuilt (at 4 0) a)
   unfolding places placesOn afterSecond
   none-read = rw (offset-mark offsetIn (code ".") refl refl, read-offset offsetIn within)
 
@@ -182,13 +182,13 @@ module _ (f : Fields) (a : ℕ) (v : Valid f a) where
     rest : drop d digitsAndOffset ≡ offsetText offsetIn
     rest = drop-at (lastDigits d coefficient) (offsetText offsetIn) d (length-places 10 digit d coefficient)
 
-    fraction-read : afterSecond (toSecond (code "." ∷ digitsAndOffset)) (withSecond atMinute (f .second)) ≡ fields (rebuilt (at 4 d) a)
+    fraction-read : afterSecond (secondThen (code "." ∷ digitsAndOffset)) (withSecond atMinute (f .second)) ≡ fields (rebuilt (at 4 d) a)
     unfolding places placesOn afterSecond afterPoint
     fraction-read =
         let e₁ : min d 18 ≡ d = omega arith in
         let e₂ : min d 19 ≡ d = omega arith in
         let e₃ = cap-low (cutTo d a) (omega (arith, cut-le d a)) in
-        let e₄ = sym (drop-drop d 20 (toSecond (code "." ∷ digitsAndOffset))) ∙ rest in
+        let e₄ = sym (drop-drop d 20 (secondThen (code "." ∷ digitsAndOffset))) ∙ rest in
         let e₅ = value-digits d coefficient (offsetText offsetIn) (units-lt d a h (v .attoseconds)) in
         rw (run, e₁, e₂, ne-eqb d 0 (omega arith), lt-ltb 0 d l, e₅, e₃, e₄, read-offset offsetIn within)
 
@@ -198,7 +198,7 @@ module _ (f : Fields) (a : ℕ) (v : Valid f a) where
   second-read (suc n) h =
       let d = suc n in
       let l : 0 < d = omega arith in
-      ap readText (second-text d ∙ ap (λ (t : List ℕ). toSecond (t ++ offsetText offsetIn)) (fraction-is d l h))
+      ap readText (second-text d ∙ ap (λ (t : List ℕ). secondThen (t ++ offsetText offsetIn)) (fraction-is d l h))
       ∙ read-second (code "." ∷ digitsAndOffset d l h)
       ∙ fraction-read d l h
 
