@@ -14,7 +14,7 @@ use Rattle.ion.specs.declared.Built.{Built}
 use Rattle.ion.specs.declared.Ordered.{Ordered}
 use Rattle.ion.specs.declared.Compared.{Compared}
 use Rattle.test_field_sets.specs.FieldSets.{builtFrom}
-use Rattle.test_answers.specs.Fields.{wordAt, pairAt, signAt, fieldSetAt, isFieldSet}
+use Rattle.test_answers.specs.Fields.{wordAt, recordedPair, signAt, fieldSetAt, isFieldSet}
 
 -- whether two signed numbers are the same
 abbrev pub sameInt : ℤ → ℤ → Bool
@@ -27,7 +27,7 @@ sameInt (negsuc a) (pos b) = false
 
 -- a number and a pair
 unfoldable pub isBuilt : Built → List ℕ → ℕ → Bool
-isBuilt a r at = eqb (a .number) (getD r at 0) && samePair (a .stamp) (pairAt r (at + 1))
+isBuilt a r at = eqb (a .number) (getD r at 0) && samePair (a .stamp) (recordedPair r (at + 1))
 
 -- of two timestamps: the number after them, and a sign
 unfoldable pub isOrdered : Ordered → List ℕ → ℕ → Bool
@@ -45,23 +45,23 @@ buildAgrees r = isFieldSet r && isBuilt (builtFrom (fieldSetAt r)) r 48
 
 -- the packed check
 unfoldable pub checkAgrees : List ℕ → Bool
-checkAgrees r = isBuilt (checkOf (pairAt r 0)) r 16
+checkAgrees r = isBuilt (checkOf (recordedPair r 0)) r 16
 
 -- the UTC form
 unfoldable pub utcAgrees : List ℕ → Bool
-utcAgrees r = isBuilt (utcOf (pairAt r 0)) r 16
+utcAgrees r = isBuilt (utcOf (recordedPair r 0)) r 16
 
 -- order and equality by instant, and by pair
 unfoldable pub orderAgrees : List ℕ → Bool
 orderAgrees r =
-    let s = pairAt r 0 in
-    let t = pairAt r 16 in
+    let s = recordedPair r 0 in
+    let t = recordedPair r 16 in
     (isOrdered (cmpOf s t) r 33 && isCompared (eqOf s t) r 34) && (isOrdered (ionCmpOf s t) r 35 && isCompared (ionEqOf s t) r 36)
 
 -- the distance
 unfoldable pub distanceAgrees : List ℕ → Bool
 distanceAgrees r =
-    let a = distanceOf (pairAt r 0) (pairAt r 16) in
+    let a = distanceOf (recordedPair r 0) (recordedPair r 16) in
     eqb (a .number) (getD r 32 0) && sameInt (a .sign) (signAt r 33) && eqb (a .seconds) (wordAt r 34) && eqb (a .attoseconds) (wordAt r 42)
 
 -- reading: the input stands after the number, the pair, and how many bytes are taken

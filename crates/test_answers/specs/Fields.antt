@@ -23,8 +23,8 @@ abbrev pub signedOf : ℕ → ℕ → ℤ
 signedOf n x = cond (ltb x (2 ^ (n - 1))) (pos x) (negsuc (2 ^ n - 1 - x))
 
 -- a pair: two such numbers
-unfoldable pub pairAt : List ℕ → ℕ → Timestamp
-pairAt s at = packedPair (wordAt s at) (wordAt s (at + 8))
+unfoldable pub recordedPair : List ℕ → ℕ → Timestamp
+recordedPair s at = packedPair (wordAt s at) (wordAt s (at + 8))
 
 -- the field set of 48 bytes: a sum of 1, 2 and 4 says how month, day, hour and minute are given, and a fraction has two numbers, of which
 -- one that is no decimal needs the low halves

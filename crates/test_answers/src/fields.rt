@@ -3,7 +3,7 @@ use ion::Timestamp;
 ghost use mathlib.Core.Path.{_≡_};
 ghost use Prim.Native.Nat.{_<_};
 ghost use lib.ListN.{getD};
-ghost use Rattle.test_answers.specs.Fields.{halfAt, wordAt, pairAt, signAt, signedOf};
+ghost use Rattle.test_answers.specs.Fields.{halfAt, wordAt, recordedPair, signAt, signedOf};
 
 pub(crate) fn number_at(s: &[u8], at: usize) -> u32
     ensures { λ r. ⌜ r ≡ getD (now (s .entry)) at 0 ⌝ }
@@ -42,7 +42,7 @@ pub(crate) fn word_at(s: &[u8], at: usize) -> u64
 
 pub(crate) fn pair_at(s: &[u8], at: usize) -> Timestamp
     requires { ⌜ at < 400 ⌝ }
-    ensures { λ r. ⌜ r ≡ pairAt (now (s .entry)) at ⌝ }
+    ensures { λ r. ⌜ r ≡ recordedPair (now (s .entry)) at ⌝ }
 {
     Timestamp {
         packed_fields: word_at(s, at),
