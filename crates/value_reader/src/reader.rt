@@ -19,7 +19,7 @@ ghost use mathlib.Core.Bool.{true};
 ghost use Prim.Native.Nat.{_≤_};
 ghost use lib.ListN.{length, drop};
 ghost use Rattle.ion.specs.Value.Decode.{localBy};
-ghost use Rattle.ion.specs.Value.ReadValue.{refusedReading, readBody, readAfter, readLength, readValue};
+ghost use Rattle.ion.specs.Value.ReadValue.{refusedReading, readAfter, readValue};
 ghost use Rattle.value_reader.specs.BodyParts.{Encodable, UtcInBounds, offsetFits, PartsRead};
 
 // The byte of the shortest length that follows a type descriptor, and of the longest.
@@ -106,16 +106,6 @@ fn read_parts(x: Body, taken: usize) -> Read
     }
 }
 
-// The timestamp whose body `b` is, with which `taken` bytes are taken.
-fn read_body(b: &[u8], taken: usize) -> Read
-    ensures { λ r. ⌜ r ≡ readBody taken (now (b .entry)) ⌝ }
-{
-    match decode_body(b) {
-        BodyRead::Parts(x) => read_parts(x, taken),
-        BodyRead::Nothing => refused(refusal::BODY),
-    }
-}
-
 // The timestamp of a body of `n` bytes from index `at` on.
 fn read_after(s: &[u8], at: usize, n: usize) -> Read
     requires { ⌜ at ≤ length (now s) ⌝ }
@@ -125,22 +115,10 @@ fn read_after(s: &[u8], at: usize, n: usize) -> Read
         return refused(refusal::INPUT_ENDS);
     }
     let end = at + n;
-    read_body(&s[at..end], end)
-}
-
-// The timestamp of a body whose length follows the type descriptor.
-fn read_length(s: &[u8]) -> Read
-    requires { ⌜ 1 ≤ length (now s) ⌝ }
-    ensures { λ r. ⌜ r ≡ readLength (drop 1 (now (s .entry))) ⌝ }
-{
-    if s.len() < 2 {
-        return refused(refusal::INPUT_ENDS);
+    match decode_body(&s[at..end]) {
+        BodyRead::Parts(x) => read_parts(x, end),
+        BodyRead::Nothing => refused(refusal::BODY),
     }
-    let c = s[1];
-    if (c < MIN_LENGTH) | (MAX_LENGTH < c) {
-        return refused(refusal::BODY);
-    }
-    read_after(s, 2, (c - END_FLAG) as usize)
 }
 
 // Reads the value with which `s` begins. Bytes after it are not read.
@@ -154,8 +132,15 @@ pub fn read_value(s: &[u8]) -> Read
     if (d < TYPE_DESCRIPTOR) | (LENGTH_FOLLOWS < d) {
         return refused(refusal::FIRST_BYTE);
     }
-    if d == LENGTH_FOLLOWS {
-        return read_length(s);
+    if d != LENGTH_FOLLOWS {
+        return read_after(s, 1, (d - TYPE_DESCRIPTOR) as usize);
     }
-    read_after(s, 1, (d - TYPE_DESCRIPTOR) as usize)
+    if s.len() == 1 {
+        return refused(refusal::INPUT_ENDS);
+    }
+    let c = s[1];
+    if (c < MIN_LENGTH) | (MAX_LENGTH < c) {
+        return refused(refusal::BODY);
+    }
+    read_after(s, 2, (c - END_FLAG) as usize)
 }
