@@ -79,18 +79,6 @@ returns-3 c =
 pub read-after-spec : {M : Type 1} → statement M
 read-after-spec =
     tie.close
-    (tie.spec
-    (λ c. search needs)
-    (λ c κs. search needs)
-    returns
-    (λ c. search needs)
-    (λ c. search needs)
-    (λ c. search needs)
-    (λ c. search needs)
-    (λ c κs. search needs)
-    (λ c. search needs)
-    read-parts-requires
-    (λ c. search needs)
-    (λ c κs. search needs)
-    returns-2
+    (tie.spec (λ c. search needs) (λ c κs. search needs) returns (λ c. search needs) (λ c. search needs) (λ c. search needs)
+    (λ c. search needs) (λ c κs. search needs) (λ c. search needs) read-parts-requires (λ c. search needs) (λ c κs. search needs) returns-2
     returns-3)

@@ -74,22 +74,7 @@ returns-6 c =
 pub read-value-spec : {M : Type 1} → statement M
 read-value-spec =
     tie.close
-    (tie.spec
-    (λ c κs. search needs)
-    returns
-    (λ c. search needs)
-    (λ c κs. search needs)
-    returns-2
-    (λ c. omega (arith, within (c .before)))
-    (λ c. omega (arith, within (c .before)))
-    (λ c κs. search needs)
-    returns-3
-    (λ c κs. search needs)
-    returns-4
-    (λ c. search needs)
-    (λ c κs. search needs)
-    returns-5
-    (λ c. omega (arith, length-within c))
-    (λ c. omega (arith, length-within c))
-    (λ c κs. search needs)
+    (tie.spec (λ c κs. search needs) returns (λ c. search needs) (λ c κs. search needs) returns-2 (λ c. omega (arith, within (c .before)))
+    (λ c. omega (arith, within (c .before))) (λ c κs. search needs) returns-3 (λ c κs. search needs) returns-4 (λ c. search needs)
+    (λ c κs. search needs) returns-5 (λ c. omega (arith, length-within c)) (λ c. omega (arith, length-within c)) (λ c κs. search needs)
     returns-6)
