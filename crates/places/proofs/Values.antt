@@ -2,10 +2,10 @@
 use mathlib.Core.Path.{_≡_, sym, ap, _∙_}
 use mathlib.Core.List.{List, [], _∷_, _++_, append-nil}
 use Prim.Native.Nat.{ℕ, suc, _+_, _*_, _^_, _≤_, _<_}
-use native.Mathlib.Nat.{pow-zero, pow-succ', add-zero, zero-add, mul-assoc, mul-one, one-le-pow, le-of-eq, le-trans, lt-of-lt-of-le}
+use native.Mathlib.Nat.{pow-zero, pow-succ', add-zero, zero-add, mul-assoc, mul-one, one-le-pow, le-of-eq, le-trans}
 use native.Mathlib.Nat.{mul-le-mul-right, le-add-right, le-mul-of-pos-right}
 use native.Mathlib.Omega.{arith}
-use lib.Arith.{digits-lt, digits-div, digits-mod}
+use lib.Arith.{digits-div, digits-mod}
 use lib.ListN.{length}
 use Rattle.places.specs.Places.{plain, placesOn, places, valueFrom}
 use Rattle.places.proofs.Below.{Below}
@@ -42,16 +42,6 @@ module _ (b : ℕ) where
       let p = b ^ length r in
       let e : v * b ^ suc (length r) ≡ v * b * p = ap (λ (x : ℕ). v * x) (pow-succ' b (length r)) ∙ sym (mul-assoc v b p) in
       le-trans (le-of-eq e) (le-trans (mul-le-mul-right p (le-add-right (v * b) d)) (value-least (v * b + d) r))
-
-  pub value-below : (v : ℕ) (s : List ℕ) → Below b s → valueFrom b plain v s < suc v * b ^ length s
-  unfolding valueFrom
-  value-below v [] h = lt-of-lt-of-le (omega arith) (le-of-eq (sym (ap (λ (x : ℕ). suc v * x) (pow-zero b) ∙ mul-one (suc v))))
-  value-below v (d ∷ r) h =
-      let p = b ^ length r in
-      let e : suc v * b * p ≡ suc v * b ^ suc (length r) = mul-assoc (suc v) b p
-      ∙ ap (λ (x : ℕ). suc v * x) (sym (pow-succ' b (length r))) in
-      let l : v * b + d < suc v * b = digits-lt {q = v} {m = suc v} (omega arith) (h 0) in
-      lt-of-lt-of-le (value-below (v * b + d) r (λ i. h (suc i))) (le-trans (mul-le-mul-right p l) (le-of-eq e))
 
   pub value-above : 0 < b → (v : ℕ) (s : List ℕ) → v ≤ valueFrom b plain v s
   value-above h v s = le-trans (le-mul-of-pos-right v (one-le-pow (length s) b h)) (value-least v s)

@@ -1,6 +1,6 @@
 -- `test_field_sets::stages::build_hour` meets its contract. Assumes nothing.
 use borrow.Author.Needs.{needs}
-use Rattle.test_field_sets.proofs.Given.{without-offset, local-offset, utc-offset}
+use Rattle.test_field_sets.proofs.FieldSets.{without-offset, local-offset, utc-offset}
 use Rattle.test_field_sets.proofs.stages.build_hour.Statement.{statement}
 use Rattle.test_field_sets.proofs.stages.build_hour.Tie as tie
 

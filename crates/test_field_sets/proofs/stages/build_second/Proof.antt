@@ -6,7 +6,7 @@ use borrow.Author.Needs.{needs}
 use Rattle.ion.specs.Calls.Stages.{withSecond, withFraction}
 use Rattle.ion.specs.declared.BuilderFields.{BuilderFields}
 use Rattle.test_field_sets.specs.FieldSets.{fractionGiven, withFractionGiven}
-use Rattle.test_field_sets.proofs.Given.{offset-passed, no-fraction, fraction-given}
+use Rattle.test_field_sets.proofs.FieldSets.{offset-passed, no-fraction, fraction-given}
 use Rattle.test_field_sets.proofs.stages.build_second.Statement.{statement}
 use Rattle.test_field_sets.proofs.stages.build_second.Tie as tie
 

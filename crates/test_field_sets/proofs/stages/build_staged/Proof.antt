@@ -5,7 +5,7 @@ use Rattle.ion.specs.Calls.Build.{buildOf}
 use Rattle.ion.specs.Calls.Stages.{withMonth, withDay}
 use Rattle.ion.specs.declared.BuilderFields.{BuilderFields}
 use Rattle.test_field_sets.specs.FieldSets.{counted, timeGiven, monthGiven, dayGiven}
-use Rattle.test_field_sets.proofs.Given.{year-given, month-given, day-given, time-given}
+use Rattle.test_field_sets.proofs.FieldSets.{year-given, month-given, day-given, time-given}
 use Rattle.test_field_sets.proofs.stages.build_staged.Statement.{statement}
 use Rattle.test_field_sets.proofs.stages.build_staged.Tie as tie
 

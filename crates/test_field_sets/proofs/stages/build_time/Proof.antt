@@ -7,7 +7,7 @@ use Rattle.ion.specs.Calls.Build.{buildOf}
 use Rattle.ion.specs.Calls.Stages.{withHour, withHourAndMinute}
 use Rattle.ion.specs.declared.BuilderFields.{BuilderFields}
 use Rattle.test_field_sets.specs.FieldSets.{secondGiven}
-use Rattle.test_field_sets.proofs.Given.{offset-passed, hour-given, minute-given, second-given}
+use Rattle.test_field_sets.proofs.FieldSets.{offset-passed, hour-given, minute-given, second-given}
 use Rattle.test_field_sets.proofs.stages.build_time.Statement.{statement}
 use Rattle.test_field_sets.proofs.stages.build_time.Tie as tie
 
