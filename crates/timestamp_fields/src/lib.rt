@@ -20,10 +20,10 @@ ghost use Rattle.ion.specs.Calls.Reads.{offsetFieldOf};
 fn field(s: Timestamp, value: u32) -> Field
     ensures { λ r. ⌜ r ≡ fieldOf value s ⌝ }
 {
-    let n = check_number(s);
-    if n != 0 {
+    let number = check_number(s);
+    if number != 0 {
         return Field {
-            number: n,
+            number: number,
             value: 0,
         };
     }
