@@ -134,7 +134,7 @@ scanned-more l v k c w r m j e h s =
       some = omega (arith, s .some);
       within = omega (arith, s .within);
       held = λ g. s .held (rw e at (grown k v c g));
-      bytes = λ g. place-more 128 k v c r h ∙ rw (f, ← add-one k, d) (s .bytes (λ i. g (suc i)));
+      bytes = λ g. place-more 128 plain k v c r h ∙ rw (f, ← add-one k, d) (s .bytes (λ i. g (suc i)));
     }
 
 pub scan-gives : (l n v k : ℕ) (s : List ℕ) (m j : ℕ) → scanFrom l n v k s ≡ Value m j → Scanned l v k s m j

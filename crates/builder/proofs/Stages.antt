@@ -36,7 +36,7 @@ At hasFraction f =
 At hasOffset f = Staged f
 
 -- fields to the minute, and to the second, with any offset
-to-minute : (o : BuilderOffset) (y mo d h mi : ℕ) → Staged (builderFields HourAndMinute o y mo d h mi 0 0 0)
+pub to-minute : (o : BuilderOffset) (y mo d h mi : ℕ) → Staged (builderFields HourAndMinute o y mo d h mi 0 0 0)
 to-minute o y mo d h mi =
     record {
       month = λ k. absurd (omega arith);
@@ -49,7 +49,7 @@ to-minute o y mo d h mi =
       multiple = λ k. refl;
     }
 
-to-second : (o : BuilderOffset) (y mo d h mi s a n : ℕ) → Cut a n → Staged (builderFields Second o y mo d h mi s a n)
+pub to-second : (o : BuilderOffset) (y mo d h mi s a n : ℕ) → Cut a n → Staged (builderFields Second o y mo d h mi s a n)
 to-second o y mo d h mi s a n c =
     record {
       month = λ k. absurd (omega arith);

@@ -1,6 +1,7 @@
 -- The local time of fields that pass the builder's checks. Assumes nothing.
 use mathlib.Core.Path.{_≡_, ap}
 use mathlib.Core.Bool.{true}
+use mathlib.Core.List.{_++_}
 use Prim.Native.Nat.{_≤_, _<_}
 use native.Mathlib.Omega.{arith}
 use borrow.Author.Tests.{not-false}
@@ -8,7 +9,7 @@ use Rattle.ion.specs.Calendar.Shift.{IsDateTime, dateOf}
 use Rattle.ion.specs.Pair.Offset.{WithinDay}
 use Rattle.ion.specs.Pair.Word.{InRange}
 use Rattle.ion.specs.Calls.Build.{precisionNumber, isYear, isDay, toOffset, routeChecks, localChecks, givenTime, movedTime, localTime}
-use Rattle.ion.specs.Calls.Build.{packedOf}
+use Rattle.ion.specs.Calls.Build.{rangeChecks, packedOf, buildNumber}
 use Rattle.ion.specs.Calls.Accepted.{InBounds, Staged, dateIn, timeIn}
 use Rattle.ion.specs.declared.DateTime.{DateTime}
 use Rattle.ion.specs.declared.Fields.{Fields}
@@ -21,8 +22,9 @@ use Rattle.ion.proofs.Offsets.{raw-lt}
 use Rattle.calendar.proofs.Dates.{is-date, first-day-is, month-of, day-of}
 use Rattle.calendar.proofs.Shifts.{shifted-is}
 use Rattle.calendar.proofs.FirstDay.{moved-room}
-use Rattle.builder.proofs.Checks.{AllPass}
-use Rattle.builder.proofs.Bounds.{precision-le, year-is}
+use Rattle.builder.proofs.Checks.{AllPass, zero-pass, pass-left, pass-right, numbered-append}
+use Rattle.builder.proofs.Bounds.{in-bounds, precision-le, year-is}
+use Rattle.builder.proofs.Routed.{ranges-numbered, route-numbered}
 
 -- fields in bounds with such a calendar day are a date and a time
 pub time-is : (f : BuilderFields) → InBounds f → isDay f ≡ true → IsDateTime (givenTime f)
@@ -58,7 +60,7 @@ given-is f b h =
     record { time = time-is f b (not-false (isDay f) (h .1 .0)); from-year = y .0; to-year = y .1 }
 
 -- the local time, on either route
-pub local-is : (f : BuilderFields) (o : BuilderOffset) → InBounds f → WithinDay (toOffset o) → AllPass (routeChecks f o)
+local-is : (f : BuilderFields) (o : BuilderOffset) → InBounds f → WithinDay (toOffset o) → AllPass (routeChecks f o)
     → IsLocalTime (localTime f o)
 local-is f Unknown b w h = given-is f b h
 local-is f (FromLocalFields m) b w h = given-is f b h
@@ -66,3 +68,12 @@ local-is f (FromUtcFields m) b w h =
     let p = time-is f b (not-false (isDay f) (h .0)) in
     let y = year-is (movedTime f m .year) (not-false (isYear (movedTime f m .year)) (h .1 .0)) in
     record { time = shifted-is (givenTime f) (m .0) p (moved-room (givenTime f) (m .0) p w (y .0)); from-year = y .0; to-year = y .1 }
+
+-- what the builder accepts
+pub build-local : (f : BuilderFields) → buildNumber f ≡ 0 → InBounds f × IsLocalTime (localTime f (f .offset))
+unfolding buildNumber
+build-local f e =
+    let r = routeChecks f (f .offset) in
+    let h = zero-pass (rangeChecks f ++ r) (numbered-append (rangeChecks f) r (ranges-numbered f) (route-numbered f (f .offset))) e in
+    let i = in-bounds f (pass-left (rangeChecks f) r h) in
+    (i, local-is f (f .offset) i (i .offset) (pass-right (rangeChecks f) r h))

@@ -7,6 +7,7 @@ use offset::OffsetMinutes;
 use offset::RawOffset;
 ghost use mathlib.Core.Path.{_≡_};
 ghost use Rattle.ion.specs.Calls.Build.{refusedBuild};
+ghost use Rattle.ion.specs.Calls.Check.{fromLocal};
 
 // The attoseconds of a second: a fraction has fewer.
 pub const MAX_ATTOSECONDS: u64 = 1_000_000_000_000_000_000;
@@ -72,6 +73,18 @@ pub enum BuilderOffset {
     Unknown,
     FromLocalFields(OffsetMinutes),
     FromUtcFields(OffsetMinutes),
+}
+
+impl BuilderOffset {
+    // Of local fields.
+    pub fn from_local(o: Offset) -> BuilderOffset
+        ensures { λ r. ⌜ r ≡ fromLocal o ⌝ }
+    {
+        match o {
+            Offset::Unknown => BuilderOffset::Unknown,
+            Offset::Known(m) => BuilderOffset::FromLocalFields(m),
+        }
+    }
 }
 
 // What the builder has been given, with the first value of each field that it has not.
@@ -193,4 +206,23 @@ pub enum VarIntRead {
 pub enum IntRead {
     Value(u64),
     Bad,
+}
+
+// ---- what the readers of parts of a text find
+
+// The number that digits make, or that they are not there.
+pub enum DigitsRead {
+    Value(u32),
+    Missing,
+}
+
+pub enum OffsetRead {
+    Found(Offset),
+    Wrong,
+}
+
+// The fields of a text that has one of the forms.
+pub enum TextRead {
+    Form(BuilderFields),
+    Broken,
 }

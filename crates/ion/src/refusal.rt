@@ -34,3 +34,5 @@ pub const BODY: u32 = 15;
 pub const SHORT_BUFFER: u32 = 16;
 // Program input above 65,536 bytes.
 pub const LONG_INPUT: u32 = 17;
+// Text in none of the forms.
+pub const FORM: u32 = 18;

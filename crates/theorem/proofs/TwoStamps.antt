@@ -9,7 +9,7 @@ use lib.Dec.{lit<}
 use lib.IntN.{pos, natAbs, _-ℤ_}
 use borrow.Author.Tests.{eq-eqb, eqb-true}
 use Rattle.ion.specs.Pair.Pair.{wordIn}
-use Rattle.ion.specs.Calls.Build.{buildOf}
+use Rattle.ion.specs.Calls.Build.{acceptedBuild, buildOf}
 use Rattle.ion.specs.Calls.Stages.{Stage, Gives}
 use Rattle.ion.specs.Calls.Check.{checkOf}
 use Rattle.ion.specs.Calls.Accepted.{Accepted}
@@ -24,24 +24,35 @@ use Rattle.ion.specs.declared.Read.{Read}
 use Rattle.ion.specs.declared.Built.{Built}
 use Rattle.timestamp.proofs.Accepts.{check-gives, check-accepts, built-checks}
 use Rattle.order.proofs.Answers.{cmp-counts, eq-counts, distance-counts}
+use Rattle.text_reader.proofs.ReadBack.{text-back, texts-read, texts-inj, text-inj}
+use Rattle.text_reader.proofs.Exact.{text-exact}
 use Rattle.value_reader.proofs.Values as values
 use Rattle.value_reader.proofs.Readings.{value-apart, value-injective}
-use Rattle.theorem.specs.TwoStamps.{utcCount, SignOf, Differ, TwoStamps}
+use Rattle.theorem.specs.TwoStamps.{utcCount, SignOf, Differ, ReadFromTexts, SameAnswers, TwoStamps}
 use Rattle.theorem.proofs.UtcCounts.{count-exact, order-sign}
-use Rattle.theorem.proofs.Bytes.{writes, reads-back}
-use Rattle.timestamp_text.proofs.Distinct.{text-inj}
+use Rattle.theorem.proofs.Bytes.{writes, reads-back, text-reads-back}
 
-module _ (s : Timestamp) (p : Accepted s) where
-  -- the pair that the packed check gives back
-  pair-stamp : checkOf s .stamp ≡ s
-  pair-stamp = ap (λ (x : Built). x .stamp) (check-accepts s p)
+-- what a check or a reader gives back
+module _ {x : Built} (s : Timestamp) (e : x ≡ acceptedBuild s) where
+  built-stamp : x .stamp ≡ s
+  built-stamp = ap (λ (b : Built). b .stamp) e
 
+  built-number : x .number ≡ 0
+  built-number = ap (λ (b : Built). b .number) e
+
+module _ (s : Timestamp) (p : Accepted s) (r : List ℕ) where
   -- what is read of the value with any bytes after it
-  value-stamp : (r : List ℕ) → readValue (valueOf s ++ r) .stamp ≡ s
-  value-stamp r = ap (λ (x : Read). x .stamp) (values.value-back s p r)
+  value-stamp : readValue (valueOf s ++ r) .stamp ≡ s
+  value-stamp = ap (λ (x : Read). x .stamp) (values.value-back s p r)
 
-  value-number : (r : List ℕ) → readValue (valueOf s ++ r) .number ≡ 0
-  value-number r = ap (λ (x : Read). x .number) (values.value-back s p r)
+  value-number : readValue (valueOf s ++ r) .number ≡ 0
+  value-number = ap (λ (x : Read). x .number) (values.value-back s p r)
+
+same-answers : {x y a b : Timestamp} → x ≡ a → y ≡ b → SameAnswers x y a b
+same-answers e f = (ap₂ distanceOf e f, ap₂ cmpOf e f, ap₂ eqOf e f)
+
+from-texts : (s : Timestamp) → Accepted s → ReadFromTexts s
+from-texts s p x = (text-exact s x, texts-read s x p)
 
 not-same : (s t : Timestamp) → Differ s t → s ≡ t → ⊥
 not-same s t d e = ⊎-elim (λ n. n (ap wordIn e)) (λ n. n (ap (λ (x : Timestamp). x .attoseconds) e)) d
@@ -86,21 +97,23 @@ module _ (a b : Timestamp) (p : Accepted a) (q : Accepted b) where
         eq-exact = eq-exact;
         pair-back = (check-accepts a p, check-accepts b q);
         value-back = (reads-back a p, reads-back b q);
-        same-by-pair = (
-          ap₂ distanceOf (pair-stamp a p) (pair-stamp b q),
-          ap₂ cmpOf (pair-stamp a p) (pair-stamp b q),
-          ap₂ eqOf (pair-stamp a p) (pair-stamp b q),
-        );
+        text-back = (text-reads-back a p, text-reads-back b q);
+        texts-exact = (from-texts a p, from-texts b q);
+        same-by-pair = same-answers (built-stamp a (check-accepts a p)) (built-stamp b (check-accepts b q));
         same-by-value = λ d e. (
           value-number a p d,
           value-number b q e,
-          ap₂ distanceOf (value-stamp a p d) (value-stamp b q e),
-          ap₂ cmpOf (value-stamp a p d) (value-stamp b q e),
-          ap₂ eqOf (value-stamp a p d) (value-stamp b q e),
+          same-answers (value-stamp a p d) (value-stamp b q e),
+        );
+        same-by-text = (
+          built-number a (text-back a p),
+          built-number b (text-back b q),
+          same-answers (built-stamp a (text-back a p)) (built-stamp b (text-back b q)),
         );
         texts-written = (writes a p (textOf a), writes b q (textOf b));
         values-written = (writes a p (valueOf a), writes b q (valueOf b));
         texts-differ = λ d e. not-same a b d (text-inj a b p q e);
+        texts-apart = λ d s h k. not-same a b d (texts-inj a b s p q h k);
         values-differ = λ d e. not-same a b d (value-injective a b p q e);
         no-beginning = λ d r. (
           (λ e. not-same a b d (beginning-same a b p q r e)),

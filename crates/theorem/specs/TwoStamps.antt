@@ -16,10 +16,12 @@ use Rattle.ion.specs.Calls.Accepted.{timeIn}
 use Rattle.ion.specs.Pair.Count.{attosecondsIn, offsetIn, countOf}
 use Rattle.ion.specs.Calls.Order.{cmpOf, eqOf, distanceOf}
 use Rattle.ion.specs.Text.Format.{textOf}
+use Rattle.ion.specs.Text.ReadText.{readTextOf}
 use Rattle.ion.specs.Value.Encode.{valueOf}
 use Rattle.ion.specs.Value.ReadValue.{acceptedReading, readValue}
 use Rattle.ion.specs.declared.Timestamp.{Timestamp}
 use Rattle.ion.specs.declared.Fields.{Fields}
+use Rattle.text_reader.specs.Texts.{TextFor}
 
 -- the fields, with the first value of each that the precision does not have
 abbrev pub withFirstValues : Fields → Fields
@@ -60,13 +62,29 @@ Writes s b =
     → (wroteAfter (checkNumber s) d at b ≡ record { number = 0; written = length b })
     × (putAfter (checkNumber s) d at b ≡ over d at b)
 
--- what the value writer wrote, answering 0, is read back with any bytes or none after it: the pair, and as many taken as were written
+-- P holds of the bytes that a writer of b for the timestamp s wrote, answering 0, and of the number of bytes that it answered
+abbrev pub AsWritten : Timestamp → List ℕ → (List ℕ → ℕ → Type 0) → Type 0
+AsWritten s b P =
+    (d : List ℕ) (at : ℕ)
+    → let w = wroteAfter (checkNumber s) d at b in
+    let e = putAfter (checkNumber s) d at b in
+    w .number ≡ 0 → P (take (w .written) (drop at e)) (w .written)
+
+-- what the value writer wrote is read back with any bytes or none after it: the pair, and as many taken as were written
 abbrev pub ReadsBack : Timestamp → Type 0
-ReadsBack s =
-    (d : List ℕ) (at : ℕ) (r : List ℕ)
-    → let w = wroteAfter (checkNumber s) d at (valueOf s) in
-    let e = putAfter (checkNumber s) d at (valueOf s) in
-    w .number ≡ 0 → readValue (take (w .written) (drop at e) ++ r) ≡ acceptedReading s (w .written)
+ReadsBack s = AsWritten s (valueOf s) (λ v n. (r : List ℕ) → readValue (v ++ r) ≡ acceptedReading s n)
+
+-- what the text writer wrote, and nothing after it, is read back: the pair
+abbrev pub TextReadsBack : Timestamp → Type 0
+TextReadsBack s = AsWritten s (textOf s) (λ x n. readTextOf x ≡ acceptedBuild s)
+
+-- the texts that are read as the timestamp s are its own, and no others
+abbrev pub ReadFromTexts : Timestamp → Type 0
+ReadFromTexts s = (x : List ℕ) → (readTextOf x ≡ acceptedBuild s → TextFor s x) × (TextFor s x → readTextOf x ≡ acceptedBuild s)
+
+-- x and y give the answers of a and b
+abbrev pub SameAnswers : Timestamp → Timestamp → Timestamp → Timestamp → Type 0
+SameAnswers x y a b = (distanceOf x y ≡ distanceOf a b) × (cmpOf x y ≡ cmpOf a b) × (eqOf x y ≡ eqOf a b)
 
 pub record TwoStamps (a b : Timestamp) : Type 0 where
   -- distance, `cmp` and `==` follow the UTC attosecond counts exactly
@@ -83,18 +101,21 @@ pub record TwoStamps (a b : Timestamp) : Type 0 where
   pub pair-back : (checkOf a ≡ acceptedBuild a) × (checkOf b ≡ acceptedBuild b)
   -- through the value bytes and back, with whatever bytes after them
   pub value-back : ReadsBack a × ReadsBack b
+  -- through the text and back, and from no text but its own
+  pub text-back : TextReadsBack a × TextReadsBack b
+  pub texts-exact : ReadFromTexts a × ReadFromTexts b
   -- and then the same answers
-  pub same-by-pair : (distanceOf (checkOf a .stamp) (checkOf b .stamp) ≡ distanceOf a b)
-      × (cmpOf (checkOf a .stamp) (checkOf b .stamp) ≡ cmpOf a b)
-      × (eqOf (checkOf a .stamp) (checkOf b .stamp) ≡ eqOf a b)
+  pub same-by-pair : SameAnswers (checkOf a .stamp) (checkOf b .stamp) a b
   pub same-by-value : (d e : List ℕ) → (readValue (valueOf a ++ d) .number ≡ 0) × (readValue (valueOf b ++ e) .number ≡ 0)
-      × (distanceOf (readValue (valueOf a ++ d) .stamp) (readValue (valueOf b ++ e) .stamp) ≡ distanceOf a b)
-      × (cmpOf (readValue (valueOf a ++ d) .stamp) (readValue (valueOf b ++ e) .stamp) ≡ cmpOf a b)
-      × (eqOf (readValue (valueOf a ++ d) .stamp) (readValue (valueOf b ++ e) .stamp) ≡ eqOf a b)
+      × SameAnswers (readValue (valueOf a ++ d) .stamp) (readValue (valueOf b ++ e) .stamp) a b
+  pub same-by-text : (readTextOf (textOf a) .number ≡ 0) × (readTextOf (textOf b) .number ≡ 0)
+      × SameAnswers (readTextOf (textOf a) .stamp) (readTextOf (textOf b) .stamp) a b
   -- text and value are what the writers, given room for them, write
   pub texts-written : Writes a (textOf a) × Writes b (textOf b)
   pub values-written : Writes a (valueOf a) × Writes b (valueOf b)
-  -- different timestamps have different texts and values, and neither value is the beginning of the other
+  -- different timestamps have different texts and values, none that is read as the one is read as the other, and neither value is
+  -- the beginning of the other
   pub texts-differ : Differ a b → textOf a ≡ textOf b → ⊥
+  pub texts-apart : Differ a b → (s : List ℕ) → TextFor a s → TextFor b s → ⊥
   pub values-differ : Differ a b → valueOf a ≡ valueOf b → ⊥
   pub no-beginning : Differ a b → (r : List ℕ) → (valueOf a ++ r ≡ valueOf b → ⊥) × (valueOf b ++ r ≡ valueOf a → ⊥)

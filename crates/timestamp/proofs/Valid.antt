@@ -1,14 +1,12 @@
 -- What the builder gives is valid, and valid fields make an accepted pair. Assumes nothing.
 use mathlib.Core.Path.{_≡_, sym, ap, subst, _∙_}
-use mathlib.Core.List.{_++_}
 use Prim.Native.Nat.{ℕ, _<_}
 use native.Mathlib.Omega.{arith}
 use Rattle.ion.specs.Calendar.Shift.{IsDateTime}
 use Rattle.ion.specs.Pair.Offset.{WithinDay, rawOf, offsetOf}
 use Rattle.ion.specs.Pair.Word.{InRange, wordOf, fieldsOf}
 use Rattle.ion.specs.Pair.Pair.{wordIn, packedPair}
-use Rattle.ion.specs.Calls.Build.{precisionNumber, rangeChecks, toOffset, routeChecks, givenTime, localTime, packedOf, buildNumber}
-use Rattle.ion.specs.Calls.Build.{buildPair}
+use Rattle.ion.specs.Calls.Build.{precisionNumber, toOffset, givenTime, localTime, packedOf, buildNumber, buildPair}
 use Rattle.ion.specs.Calls.Accepted.{Staged, Valid, Accepted, timeIn}
 use Rattle.ion.specs.declared.DateTime.{DateTime}
 use Rattle.ion.specs.declared.Fields.{Fields}
@@ -17,10 +15,8 @@ use Rattle.ion.specs.declared.BuilderOffset.{BuilderOffset}
 use Rattle.ion.specs.declared.Timestamp.{Timestamp}
 use Rattle.ion.proofs.Offsets.{raw-lt, back-within}
 use Rattle.packed.proofs.Words.{unpack-pack, pack-unpack, word-lt, word-low}
-use Rattle.builder.proofs.Checks.{zero-pass, pass-left, pass-right, numbered-append}
-use Rattle.builder.proofs.Bounds.{in-bounds, precision-le}
-use Rattle.builder.proofs.Routed.{ranges-numbered, route-numbered}
-use Rattle.builder.proofs.Times.{fields-in-range, local-is}
+use Rattle.builder.proofs.Bounds.{precision-le}
+use Rattle.builder.proofs.Times.{fields-in-range, build-local}
 
 -- ---- what the builder gives
 
@@ -30,12 +26,10 @@ unmoved b s k = ap (localTime b) (s .offset k)
 
 build-valid : (b : BuilderFields) → Staged b → buildNumber b ≡ 0
     → Valid (packedOf b (localTime b (b .offset)) (toOffset (b .offset))) (b .attoseconds)
-unfolding buildNumber
 build-valid b s e =
-    let r = routeChecks b (b .offset) in
-    let h = zero-pass (rangeChecks b ++ r) (numbered-append (rangeChecks b) r (ranges-numbered b) (route-numbered b (b .offset))) e in
-    let i = in-bounds b (pass-left (rangeChecks b) r h) in
-    let l = local-is b (b .offset) i (i .offset) (pass-right (rangeChecks b) r h) in
+    let p = build-local b e in
+    let i = p .0 in
+    let l = p .1 in
     record {
       from-year = l .from-year;
       to-year = l .to-year;

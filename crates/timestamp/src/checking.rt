@@ -8,7 +8,6 @@ use ion::Fields;
 use ion::Timestamp;
 use ion::TimestampPrecision;
 use ion::offset;
-use ion::offset::Offset;
 use ion::offset::RawOffset;
 use ion::refusal;
 ghost use mathlib.Core.Path.{_≡_};
@@ -35,11 +34,7 @@ fn offset_at(precision: u32, raw: RawOffset) -> BuilderOffset
     if precision < 3 {
         return BuilderOffset::Unknown;
     }
-    let o = offset::offset_of(raw);
-    match o {
-        Offset::Unknown => BuilderOffset::Unknown,
-        Offset::Known(m) => BuilderOffset::FromLocalFields(m),
-    }
+    BuilderOffset::from_local(offset::offset_of(raw))
 }
 
 // A field that a precision has, else its first value.

@@ -68,3 +68,7 @@ shortBuffer = 16
 -- program input above 65,536 bytes
 abbrev pub longInput : ℕ
 longInput = 17
+
+-- text in none of the forms
+abbrev pub formBroken : ℕ
+formBroken = 18

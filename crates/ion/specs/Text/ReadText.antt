@@ -1,123 +1,138 @@
 -- Reading a timestamp's text: the five written forms, a full date also without its T, and Z for +00:00. Assumes nothing.
-use Prim.Native.Nat.{ℕ, zero, suc, _+_, _-_, _*_, min}
+use Prim.Native.Nat.{ℕ, suc, _+_, _-_, _*_, min}
 use Prim.Native.Char.{code}
 use mathlib.Core.Bool.{Bool, cond, _&&_, _||_}
 use mathlib.Core.List.{List, [], _∷_}
 use lib.Dec.{eqb, leb, ltb}
 use lib.IntN.{ℤ, pos, negℤ}
-use lib.ListN.{length, drop, getD}
+use lib.ListN.{length, take, drop, getD}
+use Rattle.places.specs.Places.{valueFrom}
 use Rattle.ion.specs.Text.Ascii.{ascii}
 use Rattle.ion.specs.Pair.Offset.{offsetMinutes}
-use Rattle.ion.specs.Pair.Fraction.{scale, cappedFraction}
-use Rattle.ion.specs.Calls.Stages.{withYear, withMonth, withDay, withHour, withMinute, withSecond, withFraction, withOffset}
+use Rattle.ion.specs.Pair.Fraction.{scale}
+use Rattle.ion.specs.Calls.Refusal.{formBroken}
+use Rattle.ion.specs.Calls.Build.{refusedBuild, buildOf}
+use Rattle.ion.specs.Calls.Stages.{withYear, withMonth, withDay, withHourAndMinute, withSecond, withFraction, withOffset}
 use Rattle.ion.specs.Calls.Check.{fromLocal}
 use Rattle.ion.specs.Text.Format.{unknownText, zeroText}
 use Rattle.ion.specs.Value.ReadValue.{same}
-use Rattle.ion.specs.declared.offset.Offset.{Offset}
 use Rattle.ion.specs.declared.offset.Offset.the-variants.{Unknown, Known}
 use Rattle.ion.specs.declared.BuilderFields.{BuilderFields}
+use Rattle.ion.specs.declared.Fraction.{Fraction}
+use Rattle.ion.specs.declared.Built.{Built}
+use Rattle.ion.specs.declared.DigitsRead.{DigitsRead}
+use Rattle.ion.specs.declared.DigitsRead.the-variants.{Value, Missing}
+use Rattle.ion.specs.declared.OffsetRead.{OffsetRead}
+use Rattle.ion.specs.declared.OffsetRead.the-variants.{Found, Wrong}
+use Rattle.ion.specs.declared.TextRead.{TextRead}
+use Rattle.ion.specs.declared.TextRead.the-variants.{Form, Broken}
 
--- the fields that a text gives the builder, or none
-pub data TextRead : Type 0 where
-  fields : BuilderFields → TextRead
-  broken : TextRead
-
--- a number that digits make, or none
-pub data DigitsRead : Type 0 where
-  value : ℕ → DigitsRead
-  missing : DigitsRead
+-- ---- digits
 
 abbrev pub isDigit : ℕ → Bool
-isDigit b = leb 48 b && ltb b 58
+isDigit b = leb (code "0") b && leb b (code "9")
 
--- the number that the first k bytes of a list make below the digits of v, where all are digits
-unfoldable pub digitsValue : ℕ → ℕ → List ℕ → DigitsRead
-digitsValue zero v s = value v
-digitsValue (suc k) v [] = missing
-digitsValue (suc k) v (b ∷ s) = cond (isDigit b) (digitsValue k (v * 10 + (b - 48)) s) missing
-
--- what is made of a value, or else a
-abbrev pub onValue : {A : Type 0} → DigitsRead → A → (ℕ → A) → A
-onValue (value n) a k = k n
-onValue missing a k = a
-
--- the number of two digits after a mark at an index
-unfoldable pub markedAt : List ℕ → ℕ → ℕ → DigitsRead
-markedAt s at mark = cond (eqb (getD s at 0) mark) (digitsValue 2 0 (drop (at + 1) s)) missing
-
--- how many digits a list begins with
+-- how many digits a text begins with
 unfoldable pub digitRun : List ℕ → ℕ
 digitRun [] = 0
 digitRun (b ∷ s) = cond (isDigit b) (suc (digitRun s)) 0
 
--- ---- an offset, which is all that is left
+-- the digit that a byte is
+abbrev pub digitOf : ℕ → ℕ
+digitOf b = b - code "0"
 
-pub data OffsetRead : Type 0 where
-  offset : Offset → OffsetRead
-  wrong : OffsetRead
+-- the number that the first k bytes make
+unfoldable pub digitsValue : ℕ → List ℕ → ℕ
+digitsValue k s = valueFrom 10 digitOf 0 (take k s)
+
+-- a number of k digits, with which the text begins
+unfoldable pub readDigits : ℕ → List ℕ → DigitsRead
+readDigits k s = cond (leb k (digitRun s)) (Value (digitsValue k s)) Missing
+
+-- a mark and a number of two digits
+unfoldable pub readMarked : ℕ → List ℕ → DigitsRead
+readMarked mark s = cond (eqb (getD s 0 0) mark) (readDigits 2 (drop 1 s)) Missing
+
+-- what is made of a number, or else a
+abbrev pub onValue : {A : Type 0} → DigitsRead → A → (ℕ → A) → A
+onValue (Value n) a make = make n
+onValue Missing a make = a
+
+-- ---- the offset, which is all that is left
 
 abbrev pub knownOffset : ℤ → OffsetRead
-knownOffset z = offset (Known (offsetMinutes z))
+knownOffset z = Found (Known (offsetMinutes z))
 
--- of a sign, hours and minutes
+-- a sign, hours and minutes: any hours, but no minutes above 59
 unfoldable pub signedClock : ℕ → ℕ → ℕ → OffsetRead
 signedClock sign h m =
-    cond (ltb 59 m) wrong
+    cond (ltb 59 m) Wrong
     (cond (eqb sign (code "+")) (knownOffset (pos (h * 60 + m)))
-    (cond (eqb sign (code "-")) (knownOffset (negℤ (pos (h * 60 + m)))) wrong))
+    (cond (eqb sign (code "-")) (knownOffset (negℤ (pos (h * 60 + m)))) Wrong))
 
 unfoldable pub readClock : List ℕ → OffsetRead
 readClock r =
-    cond (eqb (length r) 6 && eqb (getD r 3 0) (code ":"))
-    (onValue (digitsValue 2 0 (drop 1 r)) wrong (λ h. onValue (digitsValue 2 0 (drop 4 r)) wrong (signedClock (getD r 0 0) h)))
-    wrong
+    cond (eqb (length r) 6)
+    (onValue (readDigits 2 (drop 1 r)) Wrong (λ h. onValue (readMarked (code ":") (drop 3 r)) Wrong (signedClock (getD r 0 0) h)))
+    Wrong
 
 unfoldable pub readOffset : List ℕ → OffsetRead
 readOffset r =
-    cond (same r unknownText) (offset Unknown)
+    cond (same r unknownText) (Found Unknown)
     (cond (same r zeroText || same r (ascii "Z")) (knownOffset (pos 0)) (readClock r))
 
--- ---- the forms, from the last part to the first; s is the whole text and f what stands before
+-- ---- how the forms end: r is what is left, and f what stands before
 
 abbrev pub ended : BuilderFields → OffsetRead → TextRead
-ended f (offset o) = fields (withOffset f (fromLocal o))
-ended f wrong = broken
+ended f (Found o) = Form (withOffset f (fromLocal o))
+ended f Wrong = Broken
 
--- the digits after the point: 18 make the attoseconds, and 19 stand for any more than 18
-unfoldable pub afterPoint : List ℕ → BuilderFields → TextRead
-afterPoint s f =
-    let n = digitRun (drop 20 s) in
-    let k = min n 18 in
-    cond (eqb n 0) broken
-    (onValue (digitsValue k 0 (drop 20 s)) broken
-    (λ c. ended (withFraction f (cappedFraction (c * scale k) (min n 19))) (readOffset (drop (20 + n) s))))
+-- in an offset
+unfoldable pub endOffset : BuilderFields → List ℕ → TextRead
+endOffset f r = ended f (readOffset r)
 
-unfoldable pub afterSecond : List ℕ → BuilderFields → TextRead
-afterSecond s f = cond (eqb (getD s 19 0) (code ".")) (afterPoint s f) (ended f (readOffset (drop 19 s)))
+-- in a T
+unfoldable pub endT : BuilderFields → List ℕ → TextRead
+endT f r = cond (same r (ascii "T")) (Form f) Broken
 
-unfoldable pub afterMinute : List ℕ → BuilderFields → TextRead
-afterMinute s f =
-    cond (eqb (getD s 16 0) (code ":")) (onValue (markedAt s 16 (code ":")) broken (λ n. afterSecond s (withSecond f n)))
-    (ended f (readOffset (drop 16 s)))
+-- in a T, or at once
+unfoldable pub endDate : BuilderFields → List ℕ → TextRead
+endDate f r = cond (same r []) (Form f) (endT f r)
 
-unfoldable pub afterHour : List ℕ → BuilderFields → TextRead
-afterHour s f = onValue (markedAt s 13 (code ":")) broken (λ n. afterMinute s (withMinute f n))
+-- the fraction that n digits are: 18 make the attoseconds, and 19 stand for any more than 18
+abbrev pub fractionRead : ℕ → List ℕ → Fraction
+fractionRead n r = let k = min n 18 in record { attoseconds = digitsValue k r * scale k; digits = min n 19 }
 
-unfoldable pub afterDay : List ℕ → BuilderFields → TextRead
-afterDay s f =
-    cond (same (drop 10 s) [] || same (drop 10 s) (ascii "T")) (fields f)
-    (onValue (markedAt s 10 (code "T")) broken (λ n. afterHour s (withHour f n)))
+-- in digits, one at least, and an offset
+unfoldable pub endDigits : BuilderFields → List ℕ → TextRead
+endDigits f r =
+    let n = digitRun r in
+    cond (eqb n 0) Broken (endOffset (withFraction f (fractionRead n r)) (drop n r))
 
-unfoldable pub afterMonth : List ℕ → BuilderFields → TextRead
-afterMonth s f =
-    cond (same (drop 7 s) (ascii "T")) (fields f)
-    (onValue (markedAt s 7 (code "-")) broken (λ n. afterDay s (withDay f n)))
+-- in an offset, before which a point and digits may stand
+unfoldable pub endSecond : BuilderFields → List ℕ → TextRead
+endSecond f r = cond (eqb (getD r 0 0) (code ".")) (endDigits f (drop 1 r)) (endOffset f r)
 
-unfoldable pub afterYear : List ℕ → BuilderFields → TextRead
-afterYear s f =
-    cond (same (drop 4 s) (ascii "T")) (fields f)
-    (onValue (markedAt s 4 (code "-")) broken (λ n. afterMonth s (withMonth f n)))
+-- ---- the whole text: each field, and the form that ends before it
 
--- the fields of a text, if it has one of the forms
 unfoldable pub readText : List ℕ → TextRead
-readText s = onValue (digitsValue 4 0 s) broken (λ y. afterYear s (withYear y))
+readText s =
+    onValue (readDigits 4 s) Broken (λ y.
+    let atYear = withYear y in
+    onValue (readMarked (code "-") (drop 4 s)) (endT atYear (drop 4 s)) (λ mo.
+    let atMonth = withMonth atYear mo in
+    onValue (readMarked (code "-") (drop 7 s)) (endT atMonth (drop 7 s)) (λ d.
+    let atDay = withDay atMonth d in
+    onValue (readMarked (code "T") (drop 10 s)) (endDate atDay (drop 10 s)) (λ h.
+    onValue (readMarked (code ":") (drop 13 s)) Broken (λ mi.
+    let atMinute = withHourAndMinute atDay h mi in
+    onValue (readMarked (code ":") (drop 16 s)) (endOffset atMinute (drop 16 s)) (λ sec.
+    endSecond (withSecond atMinute sec) (drop 19 s)))))))
+
+-- what the builder makes of the local fields of a form
+abbrev pub builtFrom : TextRead → Built
+builtFrom (Form f) = buildOf f
+builtFrom Broken = refusedBuild formBroken
+
+unfoldable pub readTextOf : List ℕ → Built
+readTextOf s = builtFrom (readText s)

@@ -1,21 +1,42 @@
 -- `offset::put_minutes` meets its contract. Assumes nothing.
 use borrow.Author.Needs.{needs}
 use mathlib.Core.Path.{_≡_, refl, sym}
-use mathlib.Core.Bool.{true}
-use Prim.Native.Nat.{_<_}
+use mathlib.Core.Bool.{true, false, true≢false, false≢true}
+use mathlib.Core.List.{_∷_}
+use Prim.Native.Char.{code}
+use Prim.Native.Nat.{zero, suc, _<_}
 use native.Mathlib.Omega.{arith}
-use lib.IntN.{ℤ, pos, natAbs, _-ℤ_}
+use lib.IntN.{ℤ, pos, negsuc, natAbs, _-ℤ_}
 use lib.Signed.{ltZ}
 use mir.Syntax.{w32}
 use mir.Val.{SFits}
 use mir.Facts.{toZ-ofZ}
-use Rattle.integers.proofs.Parts.{IsNatural, may-cast, to-unsigned, natural-fits}
+use Rattle.integers.proofs.Parts.{IsNatural, may-cast, to-unsigned, natural-fits, lt-parts, ge-parts}
 use Rattle.integers.proofs.Signs.{above-is, negated-is}
+use Rattle.ion.specs.Text.Format.{clockText, zeroText, minutesText}
 use Rattle.ion.proofs.Offsets.{offset-fits}
 use Rattle.output.proofs.Runs.{run-is}
-use Rattle.timestamp_text.proofs.Offsets.{minutes-below, minutes-above, minutes-none}
 use Rattle.timestamp_text.proofs.offset.put_minutes.Statement.{statement}
 use Rattle.timestamp_text.proofs.offset.put_minutes.Tie as tie
+
+-- ---- the text of a known offset by its sign
+
+minutes-below : (z : ℤ) → ltZ z (pos 0) ≡ true → minutesText z ≡ code "-" ∷ clockText (natAbs z)
+unfolding minutesText
+minutes-below (pos n) h = absurd (omega (arith, lt-parts (pos n) (pos 0) h))
+minutes-below (negsuc n) h = refl
+
+minutes-above : (z : ℤ) → ltZ (pos 0) z ≡ true → minutesText z ≡ code "+" ∷ clockText (natAbs z)
+unfolding minutesText
+minutes-above (pos zero) h = absurd (omega (arith, lt-parts (pos 0) (pos 0) h))
+minutes-above (pos (suc n)) h = refl
+minutes-above (negsuc n) h = absurd (false≢true h)
+
+minutes-none : (z : ℤ) → ltZ z (pos 0) ≡ false → ltZ (pos 0) z ≡ false → minutesText z ≡ zeroText
+unfolding minutesText
+minutes-none (pos zero) h k = refl
+minutes-none (pos (suc n)) h k = absurd (omega (arith, ge-parts (pos 0) (pos (suc n)) k))
+minutes-none (negsuc n) h k = absurd (true≢false h)
 
 -- the minutes that were read
 abbrev read : tie.After-minutes → ℤ

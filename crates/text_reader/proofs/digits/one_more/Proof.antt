@@ -1,0 +1,15 @@
+-- `digits::one_more` meets its contract. Assumes nothing.
+use borrow.Author.Needs.{needs}
+use borrow.Author.Tests.{lt-ltb, le-ltb}
+use Rattle.text_reader.proofs.digits.one_more.Statement.{statement}
+use Rattle.text_reader.proofs.digits.one_more.Tie as tie
+
+returns : tie.Need-returns
+returns c = rw (lt-ltb _ 18 (c .if1 .taken))
+
+returns-2 : tie.Need-returns-2
+returns-2 c = rw (le-ltb _ 18 (c .if1 .left))
+
+pub one-more-spec : {M : Type 1} → statement M
+one-more-spec =
+    tie.close (tie.spec (λ c. search needs) (λ c. search needs) (λ c. search needs) (λ c. search needs) returns returns-2)
