@@ -23,13 +23,13 @@ change() { # PLACE VALUE: a copy with another byte there
 od -An -v -tu1 "$file" | awk '
     { for (i = 1; i <= NF; i++) b[n++] = $i }
     END {
-        split("48 16 16 32 16 16 0 32 9 9 10", from)
+        split("48 16 16 32 16 16 0 32 9 9 10 0", from)
         for (at = 0; at < n; at += 2 + b[at + 1]) {
             kind = b[at]
             if (kind == 0) source++
             else if (kind != 255 && !((source, kind) in seen)) {
                 seen[source, kind] = 1
-                end = kind == 7 ? 18 : b[at + 1]
+                end = kind == 7 ? 18 : kind == 12 ? 17 : b[at + 1]
                 for (i = from[kind]; i < end; i++)
                     if (!((kind == 5 || kind == 6) && i == 17)) print source, kind, at + 2 + i, b[at + 2 + i]
             }
@@ -68,7 +68,7 @@ head -c "$start" "$file" >"$work/damaged"
 at_first; judge 'a source alone'
 head -c "$((start + 9))" "$file" >"$work/damaged"
 at_first; judge 'a cut case'
-change "$second" 12 >"$work/damaged"
+change "$second" 13 >"$work/damaged"
 at_second; judge 'an unknown kind'
 change $((second + 1)) 64 >"$work/damaged"
 at_second; judge 'a wrong length'

@@ -225,6 +225,8 @@ pub trait Library {
     /// A value without its header.
     fn body(&self, pair: Pair, buffer: &mut [u8]) -> Option<Written>;
     fn read(&self, input: &[u8]) -> Read;
+    /// The timestamp whose text the whole input is.
+    fn read_text(&self, input: &[u8]) -> Built;
 
     fn write_var_uint(&self, value: u64, buffer: &mut [u8]) -> Option<Written>;
     fn write_var_int(&self, value: i64, buffer: &mut [u8]) -> Option<Written>;

@@ -10,6 +10,8 @@ pub enum Source {
     Numbered,
     /// docs/SCOPE.md: the others of that section, and sentences with a number of their own.
     Others,
+    /// docs/SCOPE.md: the sentences on reading a text.
+    Texts,
     /// The Ion 1.0 specification, section "Timestamp": texts, and which of them are one instant.
     IonText,
     /// The Ion 1.0 binary encoding, section "6: Timestamp": values of 2000-01-01T00:00:00, with and without a fraction.
@@ -20,12 +22,14 @@ pub enum Source {
 }
 
 impl Source {
-    pub const ALL: [Source; 5] = [Source::Numbered, Source::Others, Source::IonText, Source::IonBinary, Source::ByHand];
+    pub const ALL: [Source; 6] =
+        [Source::Numbered, Source::Others, Source::Texts, Source::IonText, Source::IonBinary, Source::ByHand];
 
     pub fn name(self) -> &'static str {
         match self {
             Source::Numbered => "docs/SCOPE.md, P1 to P12",
             Source::Others => "docs/SCOPE.md, other examples",
+            Source::Texts => "docs/SCOPE.md, reading a text",
             Source::IonText => "Ion 1.0 specification, Timestamp",
             Source::IonBinary => "Ion 1.0 binary encoding, 6: Timestamp",
             Source::ByHand => "worked by hand from docs/SCOPE.md",

@@ -4,6 +4,7 @@ use crate::calls::*;
 use crate::model;
 use crate::oracle::{self, Answer};
 use crate::reader;
+use crate::text_reader;
 
 /// What the library must answer, or why the Rust has no answer to hold it against.
 pub type Expected<T> = Result<T, String>;
@@ -57,4 +58,12 @@ pub fn read(input: &[u8]) -> Read {
         Answer::Accepted(body) => Some(body),
         _ => None,
     })
+}
+
+/// The text's form by the request, over the Rust's builder.
+pub fn read_text(input: &[u8]) -> Expected<Built> {
+    match text_reader::fields_of(input) {
+        Ok(build) => built(oracle::build(&build)),
+        Err(refused) => Ok(refused),
+    }
 }

@@ -263,37 +263,48 @@ pub fn at_count(random: &mut Random, count: i128, offset: Option<i32>) -> Option
     })
 }
 
-/// A copy of good bytes with one damage.
-pub fn damaged(random: &mut Random, good: &[u8]) -> Vec<u8> {
-    const EDGES: [u8; 15] = [0x00, 0x01, 0x40, 0x41, 0x5F, 0x60, 0x6D, 0x6E, 0x6F, 0x7F, 0x80, 0x81, 0xC0, 0xC1, 0xFF];
-    let mut bytes = good.to_vec();
-    let place = random.below(bytes.len() as u64) as usize;
-    match random.below(8) {
-        0 => bytes.truncate(place),
-        1 => bytes[place] = random.pick(&EDGES),
-        2 => bytes[place] = random.bits() as u8,
-        3 => bytes[place] ^= 1 << random.below(8),
-        4 => bytes[place] = bytes[place].wrapping_add(1),
-        5 => bytes[place] = bytes[place].wrapping_sub(1),
-        // A byte more or less, and most often a header with the new length.
-        6 => {
-            bytes.insert(place, random.pick(&EDGES));
-            lengthened(&mut bytes, good, 1);
-        }
-        _ => {
-            bytes.remove(place);
-            lengthened(&mut bytes, good, -1);
+/// The text of a drawn pair, in any of its spellings.
+pub fn text(random: &mut Random) -> Vec<u8> {
+    let Answer::Accepted(mut text) = oracle::text(accepted(random)) else {
+        unreachable!("an accepted pair has a text");
+    };
+    if random.one_in(2) {
+        if text.len() == 11 {
+            text.pop();
+        } else if text.ends_with(b"+00:00") {
+            text.truncate(text.len() - 6);
+            text.push(b'Z');
         }
     }
-    bytes
+    text
 }
 
-/// Changes the length in the header of a value, where the header is still the good one's.
-fn lengthened(bytes: &mut [u8], good: &[u8], by: i32) {
-    let place = if good[0] == 0x6E { 1 } else { 0 };
-    if let (Some(length), Some(old)) = (bytes.get_mut(place), good.get(place)) {
-        if length == old {
-            *length = (*length as i32 + by) as u8;
+/// A text of drawn numbers, whether there is such a time or not; where it has no second, a fraction breaks its form.
+pub fn text_of_numbers(random: &mut Random) -> Vec<u8> {
+    fn two(random: &mut Random, mark: char, limit: u64) -> String {
+        let limit = if random.one_in(10) { 100 } else { limit };
+        format!("{mark}{:02}", random.below(limit))
+    }
+    let mut text = format!("{:04}", if random.one_in(10) { 0 } else { random.below(10_000) });
+    for (mark, limit) in [('-', 13), ('-', 32), ('T', 24), (':', 60), (':', 60)] {
+        if mark != ':' || !random.one_in(5) {
+            text += &two(random, mark, limit);
         }
     }
+    if random.one_in(2) {
+        text.push('.');
+        for _ in 0..random.below(24) {
+            text += &random.below(10).to_string();
+        }
+    }
+    match random.below(4) {
+        0 => text.push('Z'),
+        1 => text += "-00:00",
+        _ => {
+            let sign = random.pick(&['+', '-']);
+            text += &two(random, sign, 24);
+            text += &two(random, ':', 60);
+        }
+    }
+    text.into_bytes()
 }

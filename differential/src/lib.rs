@@ -17,6 +17,7 @@ pub mod calls;
 pub mod cases;
 pub mod codes;
 pub mod compare;
+pub mod damage;
 pub mod differences;
 pub mod examples;
 pub mod expected;
@@ -25,10 +26,13 @@ pub mod model;
 pub mod oracle;
 #[cfg(feature = "ours")]
 pub mod ours;
+mod plain_reader;
 pub mod random;
 pub mod reader;
+pub mod readings;
 pub mod record;
 pub mod refusals;
+pub mod text_reader;
 pub mod timing;
 
 #[cfg(test)]

@@ -81,7 +81,7 @@ fn caught_part<T>(call: impl FnOnce() -> IonResult<T>) -> Answer<T> {
     caught(|| call().map_err(|error| Refusal { year: 0, error }))
 }
 
-fn pair_of(stamp: &Timestamp) -> Pair {
+pub(crate) fn pair_of(stamp: &Timestamp) -> Pair {
     let (word, attoseconds) = stamp.to_bits();
     Pair { word, attoseconds }
 }
@@ -141,7 +141,7 @@ fn with_fraction(seconds: TimestampBuilder<HasSeconds>, build: &Build) -> IonRes
     }
 }
 
-fn finish<S: SupportsOffset>(builder: TimestampBuilder<S>, offset: Offset) -> IonResult<Timestamp> {
+pub(crate) fn finish<S: SupportsOffset>(builder: TimestampBuilder<S>, offset: Offset) -> IonResult<Timestamp> {
     match offset {
         Offset::None => builder.build(),
         Offset::Local(minutes) => builder.with_offset(minutes).build(),

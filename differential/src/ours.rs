@@ -53,6 +53,7 @@ extern "C" {
     fn timestamp_body(word: u64, attoseconds: u64, buffer: *mut u8, length: usize, written: &mut usize) -> u32;
     fn timestamp_read(input: *const u8, length: usize, word: &mut u64, attoseconds: &mut u64, taken: &mut usize)
         -> u32;
+    fn timestamp_read_text(input: *const u8, length: usize, word: &mut u64, attoseconds: &mut u64) -> u32;
     fn write_var_uint(value: u64, buffer: *mut u8, length: usize, written: &mut usize) -> u32;
     fn write_var_int(value: i64, buffer: *mut u8, length: usize, written: &mut usize) -> u32;
     fn write_zero_padded(value: u64, width: usize, buffer: *mut u8, length: usize, written: &mut usize) -> u32;
@@ -256,6 +257,10 @@ impl Library for Ours {
             timestamp_read(input.as_ptr(), input.len(), word, attoseconds, &mut taken)
         });
         Read { number: built.number, pair: built.pair, taken }
+    }
+
+    fn read_text(&self, input: &[u8]) -> Built {
+        built(|word, attoseconds| unsafe { timestamp_read_text(input.as_ptr(), input.len(), word, attoseconds) })
     }
 
     fn write_var_uint(&self, value: u64, buffer: &mut [u8]) -> Option<Written> {

@@ -16,6 +16,7 @@ pub const INPUT_ENDS: u32 = 13;
 pub const FIRST_BYTE: u32 = 14;
 pub const BODY: u32 = 15;
 pub const SHORT_BUFFER: u32 = 16;
+pub const FORM: u32 = 18;
 
 /// How each error text begins, and its number.
 const TEXTS: [(&str, u32); 11] = [

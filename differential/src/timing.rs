@@ -13,6 +13,7 @@ use crate::binary::timestamp::TimestampBinaryEncoder;
 use crate::calls::{Build, Library, Pair};
 use crate::generate;
 use crate::oracle::{self, Answer};
+use crate::plain_reader;
 use crate::random::Random;
 use crate::Timestamp;
 use std::fmt;
@@ -30,6 +31,7 @@ struct Inputs {
     stamps: Vec<Timestamp>,
     near_stamps: Vec<Timestamp>,
     values: Vec<Vec<u8>>,
+    texts: Vec<Vec<u8>>,
 }
 
 fn stamp(pair: Pair) -> Timestamp {
@@ -51,14 +53,15 @@ fn inputs(seed: u64) -> Inputs {
             near.push(close);
         }
     }
-    let value = |pair: &Pair| match oracle::value(*pair) {
-        Answer::Accepted(value) => value,
-        other => panic!("an accepted pair has a value, not {other:?}"),
+    let written = |bytes: Answer<Vec<u8>>| match bytes {
+        Answer::Accepted(bytes) => bytes,
+        other => panic!("an accepted pair has a text and a value, not {other:?}"),
     };
     Inputs {
         stamps: pairs.iter().map(|pair| stamp(*pair)).collect(),
         near_stamps: near.iter().map(|pair| stamp(*pair)).collect(),
-        values: pairs.iter().map(value).collect(),
+        values: pairs.iter().map(|pair| written(oracle::value(*pair))).collect(),
+        texts: pairs.iter().map(|pair| written(oracle::text(*pair))).collect(),
         builds,
         pairs,
         near,
@@ -150,8 +153,8 @@ pub fn run<L: Library>(library: &L, seed: u64) {
 }
 
 fn rows<'a, L: Library>(library: &'a L, inputs: &'a Inputs) -> Vec<Row<'a>> {
-    let (builds, pairs, near, values) = (&inputs.builds, &inputs.pairs, &inputs.near, &inputs.values);
-    let (stamps, near_stamps) = (&inputs.stamps, &inputs.near_stamps);
+    let (builds, pairs, near) = (&inputs.builds, &inputs.pairs, &inputs.near);
+    let (stamps, near_stamps, values, texts) = (&inputs.stamps, &inputs.near_stamps, &inputs.values, &inputs.texts);
     let row = |name, sides| Row { name, sides, best: [f64::INFINITY; 3] };
     vec![
         // The builder's checks are the call itself.
@@ -206,5 +209,14 @@ fn rows<'a, L: Library>(library: &'a L, inputs: &'a Inputs) -> Vec<Row<'a>> {
             ],
         ),
         row("read", [None, None, timed(|at| library.read(&values[at]))]),
+        // The Rust's side is a reader written by hand over its builder, whose checks are the call's.
+        row(
+            "read text",
+            [
+                timed(|at| plain_reader::read(&texts[at]).map(|stamp| stamp.to_bits())),
+                None,
+                timed(|at| library.read_text(&texts[at])),
+            ],
+        ),
     ]
 }

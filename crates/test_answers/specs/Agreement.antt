@@ -9,6 +9,7 @@ use Rattle.ion.specs.Pair.Pair.{samePair}
 use Rattle.ion.specs.Calls.Check.{checkOf}
 use Rattle.ion.specs.Calls.Utc.{utcOf}
 use Rattle.ion.specs.Calls.Order.{cmpOf, eqOf, ionCmpOf, ionEqOf, distanceOf}
+use Rattle.ion.specs.Text.ReadText.{readTextOf}
 use Rattle.ion.specs.Value.ReadValue.{readValue}
 use Rattle.ion.specs.declared.Built.{Built}
 use Rattle.ion.specs.declared.Ordered.{Ordered}
@@ -69,3 +70,7 @@ unfoldable pub readAgrees : List ℕ → Bool
 readAgrees r =
     let a = readValue (drop 19 r) in
     leb 19 (length r) && (isBuilt (record { number = a .number; stamp = a .stamp }) r 0 && eqb (a .taken) (getD r 17 0))
+
+-- reading a text, which stands after the number and the pair
+unfoldable pub textAgrees : List ℕ → Bool
+textAgrees r = leb 18 (length r) && isBuilt (readTextOf (drop 18 r)) r 0

@@ -14,6 +14,7 @@ pub use fields::half_at;
 use orders::distance_agrees;
 use orders::order_agrees;
 use read::read_agrees;
+use read::text_agrees;
 use written::written_agrees;
 ghost use Prim.Native.Nat.{_≤_};
 
@@ -26,7 +27,7 @@ fn head_length(kind: u8) -> usize
         1 => 65,
         2 | 3 => 33,
         4 => 37,
-        5 | 6 => 18,
+        5 | 6 | 12 => 18,
         7 => 19,
         8 => 50,
         9 | 10 => 9,
@@ -38,7 +39,7 @@ fn head_length(kind: u8) -> usize
 // Whether a run of bytes ends a case of the kind, after its length.
 fn has_run(kind: u8) -> bool {
     match kind {
-        5..=7 | 9..=11 => true,
+        5..=7 | 9..=12 => true,
         _ => false,
     }
 }
@@ -61,6 +62,7 @@ pub fn agrees(kind: u8, r: &[u8]) -> bool {
         4 => order_agrees(r),
         7 => read_agrees(r),
         8 => distance_agrees(r),
+        12 => text_agrees(r),
         5 | 6 | 9..=11 => written_agrees(kind, r, head_length(kind)),
         _ => false,
     }

@@ -3,7 +3,7 @@ use crate::built::is_built;
 use crate::fields::count_at;
 use ion::Built;
 ghost use mathlib.Core.Path.{_≡_};
-ghost use Rattle.test_answers.specs.Agreement.{readAgrees};
+ghost use Rattle.test_answers.specs.Agreement.{readAgrees, textAgrees};
 
 pub(crate) fn read_agrees(r: &[u8]) -> bool
     ensures { λ b. ⌜ b ≡ readAgrees (now (r .entry)) ⌝ }
@@ -18,4 +18,13 @@ pub(crate) fn read_agrees(r: &[u8]) -> bool
         stamp: stamp,
     };
     is_built(answer, r, 0) & (a.taken == count_at(r, 17))
+}
+
+pub(crate) fn text_agrees(r: &[u8]) -> bool
+    ensures { λ b. ⌜ b ≡ textAgrees (now (r .entry)) ⌝ }
+{
+    if r.len() < 18 {
+        return false;
+    }
+    is_built(text_reader::read_text(&r[18..]), r, 0)
 }

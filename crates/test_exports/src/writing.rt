@@ -1,5 +1,6 @@
 // Text and value bytes, written and read, and single numbers written.
 use crate::answers::pair;
+use crate::answers::store_built;
 use crate::answers::store_read;
 use crate::answers::store_written;
 use binary::var_int;
@@ -11,11 +12,12 @@ ghost use Rattle.ion.specs.Calls.Check.{checkNumber};
 ghost use Rattle.ion.specs.Calls.Output.{put, wrote, putAfter, wroteAfter};
 ghost use Rattle.ion.specs.Value.ReadValue.{readValue};
 ghost use Rattle.ion.specs.Text.Format.{textOf};
+ghost use Rattle.ion.specs.Text.ReadText.{readTextOf};
 ghost use Rattle.ion.specs.Value.Encode.{bodyOf, valueOf};
 ghost use Rattle.ion.specs.Numbers.Padded.{padded};
 ghost use Rattle.ion.specs.Numbers.VarInt.{varint};
 ghost use Rattle.ion.specs.Numbers.VarUInt.{varuint};
-ghost use Rattle.test_exports.specs.Answers.{WrittenIs, ReadIs};
+ghost use Rattle.test_exports.specs.Answers.{BuiltIs, WrittenIs, ReadIs};
 
 #[no_mangle]
 pub extern "C" fn timestamp_text(w: u64, a: u64, buf: &mut [u8], written: &mut usize) -> u32
@@ -59,6 +61,13 @@ pub extern "C" fn timestamp_read(
     ensures { λ r. ⌜ ReadIs (readValue (now (input .entry))) r (now (word .exit)) (now (attoseconds .exit)) (now (taken .exit)) ⌝ }
 {
     store_read(value_reader::read_value(input), word, attoseconds, taken)
+}
+
+#[no_mangle]
+pub extern "C" fn timestamp_read_text(s: &[u8], word: &mut u64, attoseconds: &mut u64) -> u32
+    ensures { λ r. ⌜ BuiltIs (readTextOf (now (s .entry))) r (now (word .exit)) (now (attoseconds .exit)) ⌝ }
+{
+    store_built(text_reader::read_text(s), word, attoseconds)
 }
 
 // ---- single numbers

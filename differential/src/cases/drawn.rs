@@ -2,6 +2,7 @@
 
 use super::{Cases, Options, Section};
 use crate::calls::{Build, Pair};
+use crate::damage;
 use crate::generate;
 use crate::model::fields;
 use crate::oracle::{self, Answer};
@@ -9,7 +10,7 @@ use crate::random::Random;
 
 pub fn sections<'a, C: Cases + 'a>(options: Options) -> Vec<Section<'a, C>> {
     type Draw<C> = fn(&mut C, &mut Random);
-    let draws: [(&'static str, Draw<C>); 10] = [
+    let draws: [(&'static str, Draw<C>); 12] = [
         ("field sets", field_sets),
         ("pairs and changed pairs", pairs),
         ("two pairs far apart", far_apart),
@@ -20,6 +21,8 @@ pub fn sections<'a, C: Cases + 'a>(options: Options) -> Vec<Section<'a, C>> {
         ("any bytes", any_bytes),
         ("numbers", numbers),
         ("shifts", shifts),
+        ("texts and damaged texts", texts),
+        ("texts of any numbers", texts_of_numbers),
     ];
     let section = |(place, (name, draw)): (usize, (&'static str, Draw<C>))| -> Section<'a, C> {
         let all = move |cases: &mut C| {
@@ -78,10 +81,10 @@ fn values(cases: &mut impl Cases, random: &mut Random) {
     let Answer::Accepted(mut value) = oracle::value(generate::accepted(random)) else {
         unreachable!("an accepted pair has a value");
     };
-    cases.read(&generate::damaged(random, &value));
-    let twice = generate::damaged(random, &value);
+    cases.read(&damage::value(random, &value));
+    let twice = damage::value(random, &value);
     if !twice.is_empty() {
-        cases.read(&generate::damaged(random, &twice));
+        cases.read(&damage::value(random, &twice));
     }
     let after = random.below(4);
     value.extend((0..after).map(|_| random.bits() as u8));
@@ -108,6 +111,24 @@ fn numbers(cases: &mut impl Cases, random: &mut Random) {
 fn shifts(cases: &mut impl Cases, random: &mut Random) {
     let time = fields::of_word(generate::accepted(random)).time;
     cases.shift(time, random.between(-1439, 1439) as i32);
+}
+
+fn texts(cases: &mut impl Cases, random: &mut Random) {
+    let mut text = generate::text(random);
+    cases.read_text(&text);
+    let damaged = damage::text(random, &text);
+    cases.read_text(&damaged);
+    if !damaged.is_empty() {
+        cases.read_text(&damage::text(random, &damaged));
+    }
+    text.extend((0..=random.below(3)).map(|_| random.bits() as u8));
+    cases.read_text(&text);
+}
+
+fn texts_of_numbers(cases: &mut impl Cases, random: &mut Random) {
+    let text = generate::text_of_numbers(random);
+    cases.read_text(&text);
+    cases.read_text(&damage::text(random, &text));
 }
 
 /// A pair of the year 1 or 9999, or of its neighbour; most of their offsets leave the years' range.

@@ -3,6 +3,7 @@
 
 mod drawn;
 mod exhaustive;
+mod texts;
 
 use crate::calls::{Build, DateTime, Pair};
 
@@ -22,6 +23,7 @@ pub trait Cases {
     fn pair(&mut self, pair: Pair);
     fn two(&mut self, first: Pair, second: Pair);
     fn read(&mut self, input: &[u8]);
+    fn read_text(&mut self, input: &[u8]);
     fn var_uint(&mut self, value: u64);
     fn var_int(&mut self, value: i64);
     fn zero_padded(&mut self, value: u64, width: usize);
@@ -42,6 +44,7 @@ pub fn sections<'a, C: Cases + 'a>(options: Options) -> Vec<Section<'a, C>> {
     let mut sections = Vec::new();
     if !options.drawn_only {
         sections.extend(exhaustive::sections());
+        sections.extend(texts::sections());
     }
     sections.extend(drawn::sections(options));
     sections

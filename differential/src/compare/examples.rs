@@ -5,6 +5,7 @@ use crate::calls::{Build, Library, Pair, Read};
 use crate::cases::Cases;
 use crate::examples::{Example, Order, EXAMPLES, ORDERS, UNREAD};
 use crate::oracle::{self, Answer};
+use crate::readings::{Reading, READINGS};
 
 pub fn all<L: Library>(run: &mut Run<'_, L>) {
     for example in &EXAMPLES {
@@ -18,6 +19,9 @@ pub fn all<L: Library>(run: &mut Run<'_, L>) {
         let expected = Read { number: unread.number, pair: Pair::NONE, taken: 0 };
         let answer = run.library.read(unread.bytes);
         run.judge("read", || format!("{:02x?}", unread.bytes), Ok(expected), answer);
+    }
+    for reading in &READINGS {
+        reads(run, reading);
     }
     first_pair(run);
 }
@@ -39,6 +43,14 @@ fn one<L: Library>(run: &mut Run<'_, L>, example: &Example) {
         let written = run.library.value(built.pair, &mut buffer).written;
         run.judge("the value", case, Ok(example.value), &buffer[..written]);
     }
+}
+
+fn reads<L: Library>(run: &mut Run<'_, L>, reading: &Reading) {
+    let text = reading.text.as_bytes();
+    run.read_text(text);
+    let expected = reading.answer(|build| run.library.build(build).pair);
+    let answer = run.library.read_text(text);
+    run.judge("read text", || format!("{}: {}", reading.source.name(), reading.text), Ok(expected), answer);
 }
 
 fn answer(bytes: &[u8]) -> Answer<Vec<u8>> {

@@ -125,7 +125,12 @@ impl<L: Library> Cases for Run<'_, L> {
         self.judge("to_utc", case, expected::built(oracle::to_utc(pair)), answer);
         let answer = self.library.fields(pair);
         self.judge_offered("fields", case, expected::fields(oracle::fields(pair)), answer);
-        self.writer("text", case, oracle::text(pair), |library, buffer| Some(library.text(pair, buffer)));
+        let text = oracle::text(pair);
+        self.writer("text", case, text.clone(), |library, buffer| Some(library.text(pair, buffer)));
+        if let Answer::Accepted(text) = text {
+            let answer = self.library.read_text(&text);
+            self.judge("read of the text", case, Ok(Built { number: 0, pair }), answer);
+        }
         let value = oracle::value(pair);
         self.writer("value", case, value.clone(), |library, buffer| Some(library.value(pair, buffer)));
         self.writer("body", case, oracle::body(pair), |library, buffer| library.body(pair, buffer));
@@ -162,6 +167,14 @@ impl<L: Library> Cases for Run<'_, L> {
         let answer = self.library.read(input);
         self.count(Counted::Read, answer.number);
         self.judge("read", || format!("{input:02x?}"), Ok(expected::read(input)), answer);
+    }
+
+    fn read_text(&mut self, input: &[u8]) {
+        self.case();
+        let answer = self.library.read_text(input);
+        self.count(Counted::ReadText, answer.number);
+        let case = || String::from_utf8_lossy(input).escape_debug().to_string();
+        self.judge("read text", case, expected::read_text(input), answer);
     }
 
     fn var_uint(&mut self, value: u64) {

@@ -17,12 +17,13 @@ enum Counted {
     Check,
     Write,
     Read,
+    ReadText,
 }
 
-const COUNTED: [&str; 4] = ["build", "check", "writers", "read"];
+const COUNTED: [&str; 5] = ["build", "check", "writers", "read", "read text"];
 
 /// Numbers go from 0 to this.
-const LAST_NUMBER: usize = 17;
+const LAST_NUMBER: usize = 18;
 
 /// Failures of one run that are printed whole.
 const SHOWN: u64 = 20;

@@ -9,6 +9,7 @@ pub mod writing;
 use crate::calls::*;
 use crate::reader;
 use crate::refusals::SHORT_BUFFER;
+use crate::text_reader;
 use fields::{number_and_pair, of_build, of_word, packed};
 use std::cmp::Ordering;
 
@@ -173,6 +174,10 @@ impl Library for Model {
 
     fn read(&self, input: &[u8]) -> Read {
         reader::read(input, |pair| on_one(pair, |fields| writing::body(&utc_and(fields))).ok())
+    }
+
+    fn read_text(&self, input: &[u8]) -> Built {
+        text_reader::fields_of(input).map_or_else(|refused| refused, |build| self.build(&build))
     }
 
     fn write_var_uint(&self, value: u64, buffer: &mut [u8]) -> Option<Written> {

@@ -20,7 +20,8 @@
 //! | 09 | VarUInt | value n8 | bytes |
 //! | 0A | VarInt | value n8, signed | bytes |
 //! | 0B | padded digits | value n8, width n1 | bytes |
-//! | FF | end | | how many records of the kinds 01 to 0B there were n4 |
+//! | 0C | text read | bytes, last | number n1, pair |
+//! | FF | end | | how many records of the kinds 01 to 0C there were n4 |
 //!
 //! A field set is its stage n1, how month, day and hour are given n1, the year, month, day, hour, minute and second n4
 //! each, the fraction's kind n1 and two numbers n8 n8, the offset's kind n1 and its minutes n4. codes.rs has the codes.
@@ -43,6 +44,7 @@ pub enum Record {
     VarUInt(u64, Vec<u8>),
     VarInt(i64, Vec<u8>),
     ZeroPadded(u64, u8, Vec<u8>),
+    ReadText(Vec<u8>, Built),
     End(u32),
 }
 
@@ -63,7 +65,7 @@ impl Record {
 
     /// Whether ion-rust itself has the call.
     pub fn is_the_rusts(&self) -> bool {
-        !matches!(self, Record::Read(..) | Record::Distance(..))
+        !matches!(self, Record::Read(..) | Record::Distance(..) | Record::ReadText(..))
     }
 
     fn kind(&self) -> u8 {
@@ -80,6 +82,7 @@ impl Record {
             Record::VarUInt(..) => 0x09,
             Record::VarInt(..) => 0x0A,
             Record::ZeroPadded(..) => 0x0B,
+            Record::ReadText(..) => 0x0C,
             Record::End(_) => 0xFF,
         }
     }
@@ -109,6 +112,10 @@ impl Record {
             Record::VarUInt(value, bytes) => rest.word(*value).bytes(bytes),
             Record::VarInt(value, bytes) => rest.word(*value as u64).bytes(bytes),
             Record::ZeroPadded(value, width, bytes) => rest.word(*value).byte(*width).bytes(bytes),
+            Record::ReadText(input, answer) => {
+                rest.built(answer);
+                rest.bytes(input);
+            }
             Record::End(count) => rest.0.extend(count.to_be_bytes()),
         }
         let length = u8::try_from(rest.0.len()).expect("a record has at most 255 bytes");
@@ -139,6 +146,10 @@ impl Record {
             0x09 => Record::VarUInt(fields.word()?, fields.bytes()?),
             0x0A => Record::VarInt(fields.word()? as i64, fields.bytes()?),
             0x0B => Record::ZeroPadded(fields.word()?, fields.byte()?, fields.bytes()?),
+            0x0C => {
+                let answer = fields.built()?;
+                Record::ReadText(fields.bytes()?, answer)
+            }
             0xFF => Record::End(fields.half()?),
             _ => return None,
         };

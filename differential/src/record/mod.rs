@@ -12,8 +12,8 @@ use sample::Sample;
 
 /// Where the Rust's own answers come from.
 const RUST: &str = "ion-rust 34e2835fb3";
-/// The reader's answers and the distances, for which ion-rust has no code at hand.
-const OVER_RUST: &str = "docs/SCOPE.md over ion-rust's check and writer";
+/// The readers' answers and the distances, for which ion-rust has no code at hand.
+const OVER_RUST: &str = "docs/SCOPE.md over ion-rust's builder, check and writer";
 
 /// The documents' examples, then of each section of cases, and in it of each number that is answered, as many as told.
 pub fn records(options: Options, of_each: usize) -> Vec<Record> {

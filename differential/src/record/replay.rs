@@ -52,6 +52,7 @@ fn agrees<L: Library>(library: &L, record: &Record) -> bool {
         Record::ZeroPadded(value, width, bytes) => {
             writes(0, bytes, |buffer| library.write_zero_padded(*value, *width as usize, buffer))
         }
+        Record::ReadText(input, answer) => library.read_text(input) == *answer,
         Record::Source(_) | Record::End(_) => false,
     }
 }

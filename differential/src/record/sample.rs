@@ -8,10 +8,11 @@ use crate::examples::{Source, EXAMPLES, ORDERS, UNREAD};
 use crate::expected::{self, Expected};
 use crate::oracle::{self, Answer};
 use crate::random::Random;
+use crate::readings::READINGS;
 use std::collections::BTreeMap;
 
 /// The longest run of bytes that is recorded.
-const LONGEST: usize = 64;
+const LONGEST: usize = 128;
 
 /// Of accepted cases this many times as many are kept as of those that are refused with one number.
 const ACCEPTED: usize = 5;
@@ -36,6 +37,7 @@ enum Kind {
     VarUInt,
     VarInt,
     ZeroPadded,
+    ReadText,
 }
 
 /// How many cases there were, and the records of those that are kept, with the cases' places.
@@ -109,6 +111,13 @@ impl Cases for Sample {
         self.offer(Kind::Read, read.number, || vec![Record::Read(input.to_vec(), read)]);
     }
 
+    fn read_text(&mut self, input: &[u8]) {
+        if input.len() <= LONGEST {
+            let built = answered(expected::read_text(input));
+            self.offer(Kind::ReadText, built.number, || vec![Record::ReadText(input.to_vec(), built)]);
+        }
+    }
+
     fn var_uint(&mut self, value: u64) {
         let record = || Record::VarUInt(value, written(oracle::write_var_uint(value)).1);
         self.offer(Kind::VarUInt, 0, || vec![record()]);
@@ -176,7 +185,9 @@ pub fn examples(source: Source) -> Vec<Record> {
         let built = Built { number: example.number, pair };
         records.push(Record::Build(example.build, built));
         if example.number == 0 {
-            records.push(Record::Text(pair, 0, example.text.as_bytes().to_vec()));
+            let text = example.text.as_bytes();
+            records.push(Record::Text(pair, 0, text.to_vec()));
+            records.push(Record::ReadText(text.to_vec(), built));
         }
         if !example.value.is_empty() {
             records.push(Record::Value(pair, 0, example.value.to_vec()));
@@ -191,6 +202,9 @@ pub fn examples(source: Source) -> Vec<Record> {
     for unread in UNREAD.iter().filter(|unread| unread.source == source) {
         let read = Read { number: unread.number, pair: Pair::NONE, taken: 0 };
         records.push(Record::Read(unread.bytes.to_vec(), read));
+    }
+    for reading in READINGS.iter().filter(|reading| reading.source == source) {
+        records.push(Record::ReadText(reading.text.as_bytes().to_vec(), reading.answer(pair_of)));
     }
     records
 }

@@ -7,8 +7,13 @@ mod wrong;
 use crate::calls::{Build, Fraction, Offset};
 use crate::cases::Options;
 use crate::compare;
+use crate::damage;
+use crate::expected;
+use crate::generate;
 use crate::model::Model;
 use crate::oracle::{self, Answer};
+use crate::plain_reader;
+use crate::random::Random;
 use crate::record::{self, format::Record, replay};
 
 const SHORT: Options = Options { seed: 7, draws: 2_000, drawn_only: true };
@@ -55,6 +60,20 @@ fn the_largest_number_counted_from_zero_overflows() {
 }
 
 #[test]
+fn the_reader_that_is_timed_reads_as_the_one_that_is_compared() {
+    let mut random = Random::new(SHORT.seed);
+    for _ in 0..50_000 {
+        for text in [generate::text(&mut random), generate::text_of_numbers(&mut random)] {
+            for text in [damage::text(&mut random, &text), text] {
+                let owed = expected::read_text(&text).expect("the Rust answers");
+                let read = plain_reader::read(&text).map(|stamp| oracle::pair_of(&stamp));
+                assert_eq!(read, (owed.number == 0).then_some(owed.pair), "{}", String::from_utf8_lossy(&text));
+            }
+        }
+    }
+}
+
+#[test]
 fn recorded_answers_come_back_and_are_replayed() {
     let records = record::records(SHORT, 3);
     let bytes = record::encoded(&records);
@@ -67,7 +86,7 @@ fn recorded_answers_come_back_and_are_replayed() {
     assert!(rest.is_empty());
 
     let tallies = replay::replay(&Model, &bytes).expect("a whole file");
-    assert_eq!(tallies.len(), 7);
+    assert_eq!(tallies.len(), 8);
     assert!(tallies.iter().all(|tally| tally.records > 0 && tally.agreed == tally.records));
 
     assert!(replay::replay(&Model, &bytes[..bytes.len() - 1]).is_err());

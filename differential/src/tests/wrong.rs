@@ -39,9 +39,15 @@ enum Fault {
     SignOnTheLastByte,
     NeverWider,
     NoDayMoved,
+    /// A reader of texts that leaves what follows.
+    ReadsABeginning,
+    /// One that takes -00:00 for a known offset.
+    ReadsUnknownAsZero,
+    /// One for which more than 18 digits break the form.
+    FewDigitsOnly,
 }
 
-const ALL: [Fault; 22] = [
+const ALL: [Fault; 25] = [
     Fault::ReadsNothing,
     Fault::TakesMore,
     Fault::DropsTheSecond,
@@ -64,6 +70,9 @@ const ALL: [Fault; 22] = [
     Fault::SignOnTheLastByte,
     Fault::NeverWider,
     Fault::NoDayMoved,
+    Fault::ReadsABeginning,
+    Fault::ReadsUnknownAsZero,
+    Fault::FewDigitsOnly,
 ];
 
 struct Wrong(Fault);
@@ -188,6 +197,18 @@ impl Library for Wrong {
         match self.0 {
             Fault::ReadsNothing => Read { number: 13, pair: Pair::NONE, taken: 0 },
             Fault::TakesMore if read.number == 0 => Read { taken: input.len() + 1, ..read },
+            _ => read,
+        }
+    }
+
+    fn read_text(&self, input: &[u8]) -> Built {
+        let read = Model.read_text(input);
+        match (self.0, input) {
+            (Fault::ReadsABeginning, [before @ .., _]) if read.number == 18 => Model.read_text(before),
+            (Fault::ReadsUnknownAsZero, [before @ .., b'-', b'0', b'0', b':', b'0', b'0']) => {
+                Model.read_text(&[before, b"Z"].concat())
+            }
+            (Fault::FewDigitsOnly, _) if read.number == 8 => Built { number: 18, ..read },
             _ => read,
         }
     }

@@ -1,13 +1,10 @@
 -- `test_answers::read::read_agrees` meets its contract. Assumes nothing.
-use Prim.Native.Nat.{_-_}
 use mathlib.Core.Path.{ap, _∙_}
-use native.Mathlib.Omega.{arith}
-use lib.ListN.{length, drop, length-drop}
-use lib.Seq.{take-all}
 use borrow.Author.Tests.{lt-leb, le-leb}
 use borrow.Author.Needs.{needs}
 use Rattle.ion.specs.Value.ReadValue.{readValue}
 use Rattle.test_answers.specs.Agreement.{readAgrees}
+use Rattle.test_answers.proofs.Rest.{rest-is}
 use Rattle.test_answers.proofs.read.read_agrees.Statement.{statement}
 use Rattle.test_answers.proofs.read.read_agrees.Tie as tie
 
@@ -22,8 +19,7 @@ returns-2 c =
     let b = n .before in
     let v = b .before .before in
     let e = v .before .before in
-    let s = e .before .before .args .r .now in
-    let q = v .read-value .ensures ∙ ap readValue (take-all (length s - 19) (drop 19 s) (omega (arith, length-drop 19 s))) in
+    let q = v .read-value .ensures ∙ ap readValue (rest-is 19 (e .before .before .args .r .now)) in
     rw (le-leb _ _ (e .if1 .left)) (rw (b .is-built .ensures, n .count-at .ensures .0, q))
 
 pub read-agrees-spec : {M : Type 1} → statement M
