@@ -1,10 +1,10 @@
 -- The number of the first check that fails, for every list of checks. Assumes nothing.
 use mathlib.Core.Path.{_≡_, refl}
-use mathlib.Core.Bool.{Bool, true, false}
+use mathlib.Core.Bool.{Bool, true, false, _&&_}
 use mathlib.Core.List.{List, [], _∷_, _++_}
-use Prim.Native.Nat.{ℕ}
+use Prim.Native.Nat.{ℕ, _≤_, _<_}
 use native.Mathlib.Omega.{arith}
-use lib.Dec.{T, ltb, ltb→lt}
+use lib.Dec.{T, leb, ltb, leb→le, ltb→lt}
 use Rattle.ion.specs.Calls.Build.{firstOf}
 
 -- every check passes
@@ -12,10 +12,19 @@ abbrev pub AllPass : List (Bool × ℕ) → Type 0
 AllPass [] = Unit
 AllPass (t ∷ ts) = (t .0 ≡ false) × AllPass ts
 
--- no check has the number 0
+-- the checks' numbers are among 1 to 11
 abbrev pub Numbered : List (Bool × ℕ) → Type 0
 Numbered [] = Unit
-Numbered (t ∷ ts) = T (ltb 0 (t .1)) × Numbered ts
+Numbered (t ∷ ts) = T (ltb 0 (t .1) && leb (t .1) 11) × Numbered ts
+
+number-within : (n : ℕ) → T (ltb 0 n && leb n 11) → (0 < n) × (n ≤ 11)
+number-within n t =
+    let h = split (ltb 0 n) (leb n 11) t in
+    (ltb→lt 0 n (h .0), leb→le n 11 (h .1))
+  where
+    split : (p q : Bool) → T (p && q) → T p × T q
+    split true q t = (tt, t)
+    split false q t = absurd t
 
 pub pass-zero : (l : List (Bool × ℕ)) → AllPass l → firstOf l ≡ 0
 pass-zero [] h = refl
@@ -25,7 +34,12 @@ pass-zero ((true, n) ∷ l) h = absurd (let e : _≡_ {A = ℕ} 0 1 = cc in omeg
 pub zero-pass : (l : List (Bool × ℕ)) → Numbered l → firstOf l ≡ 0 → AllPass l
 zero-pass [] k e = tt
 zero-pass ((false, n) ∷ l) k e = (refl, zero-pass l (k .1) e)
-zero-pass ((true, n) ∷ l) k e = absurd (omega (arith, ltb→lt 0 n (k .0)))
+zero-pass ((true, n) ∷ l) k e = absurd (omega (arith, number-within n (k .0)))
+
+pub first-most : (l : List (Bool × ℕ)) → Numbered l → firstOf l ≤ 11
+first-most [] k = omega arith
+first-most ((false, n) ∷ l) k = first-most l (k .1)
+first-most ((true, n) ∷ l) k = number-within n (k .0) .1
 
 -- once all of the first pass, the others are next
 pub pass-next : (l m : List (Bool × ℕ)) → AllPass l → firstOf (l ++ m) ≡ firstOf m

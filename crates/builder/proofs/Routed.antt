@@ -1,7 +1,8 @@
 -- The build, by its parts: the checks 1 to 9, then those of the route. Assumes nothing.
 use mathlib.Core.Path.{_≡_, refl, sym, ap, subst, _∙_}
 use mathlib.Core.Bool.{true, false, true≢false, false≢true}
-use Prim.Native.Nat.{ℕ}
+use mathlib.Core.List.{_++_}
+use Prim.Native.Nat.{ℕ, _≤_}
 use borrow.Author.Tests.{ne-eqb}
 use Rattle.ion.specs.Pair.Offset.{WithinDay, offsetMinutes, minutesOf}
 use Rattle.ion.specs.Calls.Build.{firstOf, rangeChecks, routeChecks, localChecks, utcChecks, localTime, givenTime, movedTime, toOffset}
@@ -12,18 +13,26 @@ use Rattle.ion.specs.declared.BuilderFields.{BuilderFields}
 use Rattle.ion.specs.declared.BuilderOffset.{BuilderOffset}
 use Rattle.ion.specs.declared.BuilderOffset.the-variants.{Unknown, FromLocalFields, FromUtcFields}
 use Rattle.ion.specs.declared.Built.{Built}
-use Rattle.builder.proofs.Checks.{AllPass, Numbered, zero-pass, pass-next, fail-first}
+use Rattle.builder.proofs.Checks.{AllPass, Numbered, zero-pass, first-most, pass-next, fail-first, numbered-append}
 
-pub ranges-numbered : (f : BuilderFields) → Numbered (rangeChecks f)
+ranges-numbered : (f : BuilderFields) → Numbered (rangeChecks f)
 ranges-numbered f = (tt, (tt, (tt, (tt, (tt, (tt, (tt, (tt, (tt, tt)))))))))
 
 pub ranges-pass : (f : BuilderFields) → firstOf (rangeChecks f) ≡ 0 → AllPass (rangeChecks f)
 ranges-pass f e = zero-pass (rangeChecks f) (ranges-numbered f) e
 
-pub route-numbered : (f : BuilderFields) (o : BuilderOffset) → Numbered (routeChecks f o)
+route-numbered : (f : BuilderFields) (o : BuilderOffset) → Numbered (routeChecks f o)
 route-numbered f Unknown = (tt, (tt, tt))
 route-numbered f (FromLocalFields m) = (tt, (tt, tt))
 route-numbered f (FromUtcFields m) = (tt, (tt, tt))
+
+pub all-numbered : (f : BuilderFields) → Numbered (rangeChecks f ++ routeChecks f (f .offset))
+all-numbered f = numbered-append (rangeChecks f) (routeChecks f (f .offset)) (ranges-numbered f) (route-numbered f (f .offset))
+
+-- the builder refuses with the numbers 1 to 11
+pub build-most : (f : BuilderFields) → buildNumber f ≤ 11
+unfolding buildNumber
+build-most f = first-most (rangeChecks f ++ routeChecks f (f .offset)) (all-numbered f)
 
 -- what the route gives
 abbrev pub routed : BuilderFields → BuilderOffset → Built

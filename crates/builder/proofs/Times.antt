@@ -22,9 +22,9 @@ use Rattle.ion.proofs.Offsets.{raw-lt}
 use Rattle.calendar.proofs.Dates.{is-date, first-day-is, month-of, day-of}
 use Rattle.calendar.proofs.Shifts.{shifted-is}
 use Rattle.calendar.proofs.FirstDay.{moved-room}
-use Rattle.builder.proofs.Checks.{AllPass, zero-pass, pass-left, pass-right, numbered-append}
+use Rattle.builder.proofs.Checks.{AllPass, zero-pass, pass-left, pass-right}
 use Rattle.builder.proofs.Bounds.{in-bounds, precision-le, year-is}
-use Rattle.builder.proofs.Routed.{ranges-numbered, route-numbered}
+use Rattle.builder.proofs.Routed.{all-numbered}
 
 -- fields in bounds with such a calendar day are a date and a time
 pub time-is : (f : BuilderFields) → InBounds f → isDay f ≡ true → IsDateTime (givenTime f)
@@ -74,6 +74,6 @@ pub build-local : (f : BuilderFields) → buildNumber f ≡ 0 → InBounds f × 
 unfolding buildNumber
 build-local f e =
     let r = routeChecks f (f .offset) in
-    let h = zero-pass (rangeChecks f ++ r) (numbered-append (rangeChecks f) r (ranges-numbered f) (route-numbered f (f .offset))) e in
+    let h = zero-pass (rangeChecks f ++ r) (all-numbered f) e in
     let i = in-bounds f (pass-left (rangeChecks f) r h) in
     (i, local-is f (f .offset) i (i .offset) (pass-right (rangeChecks f) r h))

@@ -33,6 +33,7 @@ use Rattle.ion.specs.declared.TextRead.the-variants.{Form, Broken}
 use Rattle.ion.proofs.Offsets.{raw-and-back}
 use Rattle.text.proofs.Digits.{length-padded}
 use Rattle.packed.proofs.Words.{unpack-pack}
+use Rattle.builder.proofs.Routed.{build-most}
 use Rattle.builder.proofs.Times.{time-in-range, build-local}
 use Rattle.timestamp.proofs.Valid.{build-accepted}
 use Rattle.text_reader.specs.Texts.{TextFor, written, without-t, with-z}
@@ -166,6 +167,18 @@ on-built P s h k = go (readText s) k
     go (Form f) k =
         let n = buildNumber f in
         on-test P (eqb n 0) (λ e. k f refl (eqb-true n 0 e)) (λ e. h n (eqb-false n 0 e))
+
+-- 18 is answered to texts in none of the forms, and to no others
+pub broken-exact : (s : List ℕ)
+    → (readTextOf s .number ≡ formBroken → readText s ≡ Broken) × (readText s ≡ Broken → readTextOf s ≡ refusedBuild formBroken)
+unfolding readTextOf buildOf
+broken-exact s = (go (readText s), ap builtFrom)
+  where
+    go : (x : TextRead) → builtFrom x .number ≡ formBroken → x ≡ Broken
+    go Broken e = refl
+    go (Form f) e =
+        absurd (on-test (λ (b : Built). b .number ≡ formBroken → ⊥) (eqb (buildNumber f) 0) (λ z h. omega arith)
+        (λ z h. omega (arith, build-most f)) e)
 
 -- what is read as a timestamp is one of its texts
 pub text-exact : (t : Timestamp) (s : List ℕ) → readTextOf s ≡ acceptedBuild t → TextFor t s
