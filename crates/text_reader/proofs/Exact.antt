@@ -20,7 +20,7 @@ use Rattle.ion.specs.Calls.Accepted.{InBounds, Accepted}
 use Rattle.ion.specs.Calls.Check.{fromLocal}
 use Rattle.ion.specs.Calls.Stages.{withYear, withMonth, withDay, withHourAndMinute, withSecond, withFraction, withOffset}
 use Rattle.ion.specs.Text.Format.{marked, fractionText, minutesText, offsetText, fieldsText, textOf}
-use Rattle.ion.specs.Text.ReadText.{digitRun, readDigits, readMarked, fractionRead, readText, builtFrom, readTextOf}
+use Rattle.ion.specs.Text.ReadText.{digitRun, readDigits, readMarked, digitsFraction, readText, builtFrom, readTextOf}
 use Rattle.ion.specs.declared.Fields.{Fields}
 use Rattle.ion.specs.declared.Fraction.{Fraction}
 use Rattle.ion.specs.declared.BuilderFields.{BuilderFields}
@@ -118,7 +118,7 @@ module _ (s : List ℕ) where
       → getD r 0 0 ≡ code "." → AtDigits Exact f (drop 1 r)
   end-digits f w r b h p k =
       let n = digitRun (drop 1 r) in
-      let x = fractionRead n (drop 1 r) in
+      let x = digitsFraction n (drop 1 r) in
       let u = fractionText (x .digits) (x .attoseconds) in
       let v = drop n (drop 1 r) in
       end-offset (withFraction f x) (w ++ u) v

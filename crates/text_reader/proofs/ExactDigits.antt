@@ -13,7 +13,7 @@ use borrow.Author.Tests.{leb-true, eqb-true, ne-eqb}
 use Rattle.places.proofs.Values.{Bytes, bytes-are, bytes-below}
 use Rattle.ion.specs.Numbers.Padded.{digit, lastDigits, padded}
 use Rattle.ion.specs.Text.Format.{marked, fractionText}
-use Rattle.ion.specs.Text.ReadText.{isDigit, digitRun, digitOf, digitsValue, readDigits, readMarked, fractionRead}
+use Rattle.ion.specs.Text.ReadText.{isDigit, digitRun, digitOf, digitsValue, readDigits, readMarked, digitsFraction}
 use Rattle.ion.specs.declared.DigitsRead.{DigitsRead}
 use Rattle.ion.specs.declared.DigitsRead.the-variants.{Value, Missing}
 use Rattle.fraction.proofs.Scales.{scale-pos}
@@ -91,7 +91,7 @@ next-marked s w at mark n h b e =
 
 -- at most eighteen digits and their point are the text of the fraction that they are
 fraction-digits : (t : List ℕ) → (digitRun t ≡ 0 → ⊥) → digitRun t ≤ 18
-    → let x = fractionRead (digitRun t) t in code "." ∷ take (digitRun t) t ≡ fractionText (x .digits) (x .attoseconds)
+    → let x = digitsFraction (digitRun t) t in code "." ∷ take (digitRun t) t ≡ fractionText (x .digits) (x .attoseconds)
 unfolding fractionText
 fraction-digits t h l =
     let n = digitRun t in
@@ -101,7 +101,7 @@ fraction-digits t h l =
     rw (e₁, e₂, ne-eqb n 0 h, mul-div-cancel (digitsValue n t) (scale-pos n))
     (ap (λ (b : List ℕ). code "." ∷ b) (sym (padded-digits n (digitsValue n t) (omega arith) (v .0) ∙ v .1)))
 
-pub fraction-exact : (r : List ℕ) → getD r 0 0 ≡ code "." → let t = drop 1 r in let n = digitRun t in let x = fractionRead n t in
+pub fraction-exact : (r : List ℕ) → getD r 0 0 ≡ code "." → let t = drop 1 r in let n = digitRun t in let x = digitsFraction n t in
     (n ≡ 0 → ⊥) → x .digits ≤ 18 → r ≡ fractionText (x .digits) (x .attoseconds) ++ drop n t
 fraction-exact r p k l =
     let t = drop 1 r in

@@ -15,7 +15,7 @@ use Rattle.ion.specs.Calls.Accepted.{Staged}
 use Rattle.ion.specs.Calls.Check.{fromLocal}
 use Rattle.ion.specs.Calls.Stages.{withFraction, withOffset, year, month, day}
 use Rattle.ion.specs.Text.ReadText.{digitRun, digitsValue, readDigits, readMarked, onValue, readOffset, ended, endOffset, endT, endDate}
-use Rattle.ion.specs.Text.ReadText.{fractionRead, endDigits, endSecond, readText}
+use Rattle.ion.specs.Text.ReadText.{digitsFraction, endDigits, endSecond, readText}
 use Rattle.ion.specs.Value.ReadValue.{same}
 use Rattle.ion.specs.declared.BuilderFields.{BuilderFields}
 use Rattle.ion.specs.declared.DigitsRead.{DigitsRead}
@@ -66,13 +66,13 @@ module _ (P : BuilderFields → Type 0) where
 
   -- in digits, one at least, and an offset
   abbrev pub AtDigits : BuilderFields → List ℕ → Type 0
-  AtDigits f r = let n = digitRun r in (n ≡ 0 → ⊥) → AtOffset (withFraction f (fractionRead n r)) (drop n r)
+  AtDigits f r = let n = digitRun r in (n ≡ 0 → ⊥) → AtOffset (withFraction f (digitsFraction n r)) (drop n r)
 
   on-digits : (f : BuilderFields) (r : List ℕ) → AtDigits f r → Holds (endDigits f r)
   unfolding endDigits
   on-digits f r h =
       let n = digitRun r in
-      on-test Holds (eqb n 0) (λ e. tt) (λ e. on-offset (withFraction f (fractionRead n r)) (drop n r) (h (eqb-false n 0 e)))
+      on-test Holds (eqb n 0) (λ e. tt) (λ e. on-offset (withFraction f (digitsFraction n r)) (drop n r) (h (eqb-false n 0 e)))
 
   pub on-second : (f : BuilderFields) (r : List ℕ) → AtOffset f r → (getD r 0 0 ≡ code "." → AtDigits f (drop 1 r)) → Holds (endSecond f r)
   unfolding endSecond
@@ -82,7 +82,7 @@ module _ (P : BuilderFields → Type 0) where
 
 -- ---- the stages
 
-fraction-multiple : (n : ℕ) (r : List ℕ) → fractionRead n r .attoseconds % scale (fractionRead n r .digits) ≡ 0
+fraction-multiple : (n : ℕ) (r : List ℕ) → digitsFraction n r .attoseconds % scale (digitsFraction n r .digits) ≡ 0
 fraction-multiple n r =
     let k = min n 18 in
     let e : 18 - min n 19 ≡ 18 - k = omega arith in

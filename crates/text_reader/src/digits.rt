@@ -2,7 +2,7 @@
 use ion::DigitsRead;
 ghost use mathlib.Core.Path.{_≡_};
 ghost use mathlib.Core.List.{[], _∷_};
-ghost use mathlib.Core.Bool.{cond};
+ghost use mathlib.Core.Bool.{true, cond};
 ghost use Prim.Native.Nat.{_+_, _*_, _^_, _≤_, _<_};
 ghost use lib.Dec.{ltb};
 ghost use lib.ListN.{length, drop};
@@ -62,9 +62,9 @@ pub(crate) struct DigitRun {
     pub(crate) value: u64,
 }
 
-// The number that n digits and one more make: past the eighteenth they are not counted.
+// The number that n digits and one more make, of which only the first 18 count.
 fn one_more(value: u64, n: usize, b: u8) -> u64
-    requires { ⌜ (value < 10 ^ 18) × ((48 ≤ b) × (b ≤ 57)) ⌝ }
+    requires { ⌜ (value < 10 ^ 18) × (isDigit b ≡ true) ⌝ }
     ensures { λ r. ⌜ r ≡ cond (ltb n 18) (value * 10 + digitOf b) value ⌝ }
 {
     if n < 18 {

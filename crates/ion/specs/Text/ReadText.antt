@@ -100,14 +100,14 @@ unfoldable pub endDate : BuilderFields → List ℕ → TextRead
 endDate f r = cond (same r []) (Form f) (endT f r)
 
 -- the fraction that n digits are: 18 make the attoseconds, and 19 stand for any more than 18
-abbrev pub fractionRead : ℕ → List ℕ → Fraction
-fractionRead n r = let k = min n 18 in record { attoseconds = digitsValue k r * scale k; digits = min n 19 }
+abbrev pub digitsFraction : ℕ → List ℕ → Fraction
+digitsFraction n r = let k = min n 18 in record { attoseconds = digitsValue k r * scale k; digits = min n 19 }
 
 -- in digits, one at least, and an offset
 unfoldable pub endDigits : BuilderFields → List ℕ → TextRead
 endDigits f r =
     let n = digitRun r in
-    cond (eqb n 0) Broken (endOffset (withFraction f (fractionRead n r)) (drop n r))
+    cond (eqb n 0) Broken (endOffset (withFraction f (digitsFraction n r)) (drop n r))
 
 -- in an offset, before which a point and digits may stand
 unfoldable pub endSecond : BuilderFields → List ℕ → TextRead

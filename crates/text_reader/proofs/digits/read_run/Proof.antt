@@ -11,7 +11,7 @@ use lib.Dec.{lit<}
 use lib.ListN.{length, drop, getD, length-drop}
 use lib.Seq.{getD-drop}
 use Rattle.ion.specs.Text.ReadText.{isDigit}
-use Rattle.text_reader.proofs.Runs.{digit-within, Read, read-none, read-stop, read-end, read-more}
+use Rattle.text_reader.proofs.Runs.{Read, read-none, read-stop, read-end, read-more}
 use Rattle.text_reader.proofs.ExactDigits.{run-value}
 use Rattle.text_reader.proofs.digits.read_run.Statement.{statement}
 use Rattle.text_reader.proofs.digits.read_run.Tie as tie
@@ -67,7 +67,7 @@ is-digit c = tested (c .before) ∙ not-false _ (c .if1 .left)
 one-more-requires : tie.Need-one-more-requires Inv-loop μ-loop
 one-more-requires c κs =
     let d = c .before in
-    (small d, digit-within (getD (s d) (l d) 0) (ap isDigit (sym (byte d)) ∙ is-digit c))
+    (small d, ap isDigit (sym (byte d)) ∙ is-digit c)
 
 loop-again : tie.Need-loop-again Inv-loop μ-loop
 loop-again c =
