@@ -23,15 +23,18 @@ change() { # PLACE VALUE: a copy with another byte there
 od -An -v -tu1 "$file" | awk '
     { for (i = 1; i <= NF; i++) b[n++] = $i }
     END {
-        split("48 16 16 32 16 16 0 32 9 9 10 0", from)
+        split("48 16 16 32 16 16 0 32 9 9 10 0 0 24 0", from)
+        # Where the answer stands before a run of bytes, its end; where a length stands in it, that place.
+        end[7] = 18; end[12] = 17; end[13] = 26; end[15] = 2
+        length_at[5] = length_at[6] = 17; length_at[14] = 25
         for (at = 0; at < n; at += 2 + b[at + 1]) {
             kind = b[at]
             if (kind == 0) source++
             else if (kind != 255 && !((source, kind) in seen)) {
                 seen[source, kind] = 1
-                end = kind == 7 ? 18 : kind == 12 ? 17 : b[at + 1]
-                for (i = from[kind]; i < end; i++)
-                    if (!((kind == 5 || kind == 6) && i == 17)) print source, kind, at + 2 + i, b[at + 2 + i]
+                last = kind in end ? end[kind] : b[at + 1]
+                for (i = from[kind]; i < last; i++)
+                    if (!(kind in length_at && i == length_at[kind])) print source, kind, at + 2 + i, b[at + 2 + i]
             }
         }
     }' >"$work/answers"
@@ -68,7 +71,7 @@ head -c "$start" "$file" >"$work/damaged"
 at_first; judge 'a source alone'
 head -c "$((start + 9))" "$file" >"$work/damaged"
 at_first; judge 'a cut case'
-change "$second" 13 >"$work/damaged"
+change "$second" 16 >"$work/damaged"
 at_second; judge 'an unknown kind'
 change $((second + 1)) 64 >"$work/damaged"
 at_second; judge 'a wrong length'

@@ -9,4 +9,5 @@ pub mod Accepted
 pub mod Reads
 pub mod Utc
 pub mod Order
+pub mod Contents
 pub mod Stamps

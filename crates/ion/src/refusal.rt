@@ -36,3 +36,5 @@ pub const SHORT_BUFFER: u32 = 16;
 pub const LONG_INPUT: u32 = 17;
 // Text in none of the forms.
 pub const FORM: u32 = 18;
+// Number of a scan padded, without an end mark in five bytes, or above 4,294,967,295.
+pub const NUMBER: u32 = 19;

@@ -88,7 +88,7 @@ take-over d at s n e h =
     rw (← append-assoc (take at d) s (drop (at + length s) d))
     (take-at (take at d ++ s) (drop (at + length s) d) (at + n) (simp (length-append, length-take-le at d h, e)))
 
-pub drop-over : (d : List ℕ) (at : ℕ) (s : List ℕ) (n : ℕ) → length s ≡ n → at ≤ length d → drop (at + n) (over d at s) ≡ drop (at + n) d
+drop-over : (d : List ℕ) (at : ℕ) (s : List ℕ) (n : ℕ) → length s ≡ n → at ≤ length d → drop (at + n) (over d at s) ≡ drop (at + n) d
 drop-over d at s n e h =
     rw (← append-assoc (take at d) s (drop (at + length s) d), ← e)
     (drop-at (take at d ++ s) (drop (at + length s) d) (at + length s) (simp (length-append, length-take-le at d h)))

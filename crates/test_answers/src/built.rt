@@ -58,19 +58,19 @@ fn field_set_at(r: &[u8]) -> FieldSet
     }
 }
 
-pub(crate) fn build_agrees(r: &[u8]) -> bool
+pub fn build_agrees(r: &[u8]) -> bool
     ensures { λ b. ⌜ b ≡ buildAgrees (now (r .entry)) ⌝ }
 {
     is_field_set(r) & is_built(test_field_sets::build_from(field_set_at(r)), r, 48)
 }
 
-pub(crate) fn check_agrees(r: &[u8]) -> bool
+pub fn check_agrees(r: &[u8]) -> bool
     ensures { λ b. ⌜ b ≡ checkAgrees (now (r .entry)) ⌝ }
 {
     is_built(timestamp::check(pair_at(r, 0)), r, 16)
 }
 
-pub(crate) fn utc_agrees(r: &[u8]) -> bool
+pub fn utc_agrees(r: &[u8]) -> bool
     ensures { λ b. ⌜ b ≡ utcAgrees (now (r .entry)) ⌝ }
 {
     is_built(timestamp::to_utc(pair_at(r, 0)), r, 16)

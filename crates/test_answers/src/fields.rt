@@ -5,7 +5,7 @@ ghost use Prim.Native.Nat.{_<_};
 ghost use lib.ListN.{getD};
 ghost use Rattle.test_answers.specs.Fields.{halfAt, wordAt, recordedPair, signAt, signedOf};
 
-pub(crate) fn number_at(s: &[u8], at: usize) -> u32
+pub fn number_at(s: &[u8], at: usize) -> u32
     ensures { λ r. ⌜ r ≡ getD (now (s .entry)) at 0 ⌝ }
     ensures { λ r. ⌜ r < 256 ⌝ }
 {
@@ -33,14 +33,14 @@ pub fn half_at(s: &[u8], at: usize) -> u32
     ((b0 * 256 + b1) * 256 + b2) * 256 + b3
 }
 
-pub(crate) fn word_at(s: &[u8], at: usize) -> u64
+pub fn word_at(s: &[u8], at: usize) -> u64
     requires { ⌜ at < 500 ⌝ }
     ensures { λ r. ⌜ r ≡ wordAt (now (s .entry)) at ⌝ }
 {
     half_at(s, at) as u64 * 4_294_967_296 + half_at(s, at + 4) as u64
 }
 
-pub(crate) fn pair_at(s: &[u8], at: usize) -> Timestamp
+pub fn pair_at(s: &[u8], at: usize) -> Timestamp
     requires { ⌜ at < 400 ⌝ }
     ensures { λ r. ⌜ r ≡ recordedPair (now (s .entry)) at ⌝ }
 {
@@ -77,7 +77,7 @@ pub(crate) fn signed_half(x: u32) -> i32
     -1 - (4_294_967_295 - x) as i32
 }
 
-pub(crate) fn signed_word(x: u64) -> i64
+pub fn signed_word(x: u64) -> i64
     ensures { λ r. ⌜ r ≡ signedOf 64 x ⌝ }
 {
     if x < 9_223_372_036_854_775_808 {

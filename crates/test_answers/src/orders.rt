@@ -29,7 +29,7 @@ fn is_compared(a: Compared, r: &[u8], at: usize) -> bool
     (a.number == number_at(r, 32)) & (number_at(r, at) == flag_of(a.equal))
 }
 
-pub(crate) fn order_agrees(r: &[u8]) -> bool
+pub fn order_agrees(r: &[u8]) -> bool
     ensures { λ b. ⌜ b ≡ orderAgrees (now (r .entry)) ⌝ }
 {
     let s = pair_at(r, 0);
@@ -39,7 +39,7 @@ pub(crate) fn order_agrees(r: &[u8]) -> bool
     instants & pairs
 }
 
-pub(crate) fn distance_agrees(r: &[u8]) -> bool
+pub fn distance_agrees(r: &[u8]) -> bool
     ensures { λ b. ⌜ b ≡ distanceAgrees (now (r .entry)) ⌝ }
 {
     let a = order::distance(pair_at(r, 0), pair_at(r, 16));

@@ -5,7 +5,7 @@ use ion::Built;
 ghost use mathlib.Core.Path.{_≡_};
 ghost use Rattle.test_answers.specs.Agreement.{readAgrees, textAgrees};
 
-pub(crate) fn read_agrees(r: &[u8]) -> bool
+pub fn read_agrees(r: &[u8]) -> bool
     ensures { λ b. ⌜ b ≡ readAgrees (now (r .entry)) ⌝ }
 {
     if r.len() < 19 {
@@ -20,7 +20,7 @@ pub(crate) fn read_agrees(r: &[u8]) -> bool
     is_built(answer, r, 0) & (a.taken == count_at(r, 17))
 }
 
-pub(crate) fn text_agrees(r: &[u8]) -> bool
+pub fn text_agrees(r: &[u8]) -> bool
     ensures { λ b. ⌜ b ≡ textAgrees (now (r .entry)) ⌝ }
 {
     if r.len() < 18 {

@@ -4,5 +4,6 @@ mod answers;
 mod building;
 mod comparing;
 mod reading;
+mod scanning;
 mod shifting;
 mod writing;

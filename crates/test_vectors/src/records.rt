@@ -1,7 +1,7 @@
 // The records of a file: a kind, the number of bytes that follow, and these.
-use test_answers::case_length;
 use test_answers::count_at;
 use test_answers::half_at;
+use test_cases::case_length;
 ghost use Prim.Native.Nat.{_+_, _<_};
 ghost use lib.ListN.{length};
 ghost use Rattle.test_vectors.specs.Records.{Inside};

@@ -3,7 +3,7 @@ use crate::lines::print_broken;
 use crate::lines::print_counts;
 use crate::records::Record;
 use crate::records::record_at;
-use test_answers::agrees;
+use test_cases::agrees;
 ghost use Prim.Native.Nat.{_+_, _≤_};
 ghost use lib.ListN.{length};
 ghost use Rattle.test_vectors.specs.Records.{Counted};

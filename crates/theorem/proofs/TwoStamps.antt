@@ -22,15 +22,19 @@ use Rattle.ion.specs.declared.BuilderFields.{BuilderFields}
 use Rattle.ion.specs.declared.Timestamp.{Timestamp}
 use Rattle.ion.specs.declared.Read.{Read}
 use Rattle.ion.specs.declared.Built.{Built}
-use Rattle.timestamp.proofs.Accepts.{check-gives, check-accepts, built-checks}
+use Rattle.timestamp.proofs.Accepts.{check-gives, check-accepts, check-zero, built-checks}
 use Rattle.order.proofs.Answers.{cmp-counts, eq-counts, distance-counts}
 use Rattle.text_reader.proofs.ReadBack.{text-back, texts-read, texts-inj, text-inj}
 use Rattle.text_reader.proofs.Exact.{text-exact}
 use Rattle.value_reader.proofs.Values as values
-use Rattle.value_reader.proofs.Readings.{value-apart, value-injective}
+use Rattle.value_reader.proofs.Readings.{value-apart}
+use Rattle.scans.specs.Scan.{scanBytes, readScan}
+use Rattle.scans.specs.declared.Scan.{Scan}
+use Rattle.scans.specs.declared.ScanRead.{ScanRead}
+use Rattle.scan_laws.proofs.Scans.{Stored, scan-back, scans-apart}
 use Rattle.theorem.specs.TwoStamps.{utcCount, SignOf, Differ, ReadFromTexts, SameAnswers, TwoStamps}
 use Rattle.theorem.proofs.UtcCounts.{count-exact, order-sign}
-use Rattle.theorem.proofs.Bytes.{writes, reads-back, text-reads-back}
+use Rattle.theorem.proofs.Bytes.{writes, reads-back, text-reads-back, stored, scan-writes, scan-reads-back}
 
 -- what a check or a reader gives back
 module _ {x : Built} (s : Timestamp) (e : x ≡ acceptedBuild s) where
@@ -51,14 +55,38 @@ module _ (s : Timestamp) (p : Accepted s) (r : List ℕ) where
 same-answers : {x y a b : Timestamp} → x ≡ a → y ≡ b → SameAnswers x y a b
 same-answers e f = (ap₂ distanceOf e f, ap₂ cmpOf e f, ap₂ eqOf e f)
 
+-- what is read of scans with any bytes after them
+scan-read : {x : Scan} → Stored x → (r : List ℕ)
+    → (readScan (scanBytes x ++ r) .number ≡ 0) × (readScan (scanBytes x ++ r) .scan .stamp ≡ x .stamp)
+scan-read {x} p r = let e = scan-back x r p in (ap (λ (y : ScanRead). y .number) e, ap (λ (y : ScanRead). y .scan .stamp) e)
+
+module _ {x y : Scan} (h : Stored x) (k : Stored y) where
+  scans-read : (d e : List ℕ) → (readScan (scanBytes x ++ d) .number ≡ 0) × (readScan (scanBytes y ++ e) .number ≡ 0)
+      × SameAnswers (readScan (scanBytes x ++ d) .scan .stamp) (readScan (scanBytes y ++ e) .scan .stamp) (x .stamp) (y .stamp)
+  scans-read d e =
+      let m = scan-read h d in
+      let n = scan-read k e in
+      (m .0, n .0, same-answers (m .1) (n .1))
+
+  scan-stamps : (q r : List ℕ) → scanBytes x ++ q ≡ scanBytes y ++ r → x .stamp ≡ y .stamp
+  scan-stamps q r e = ap (λ (z : Scan). z .stamp) (scans-apart x y h k q r e)
+
 from-texts : (s : Timestamp) → Accepted s → ReadFromTexts s
 from-texts s p x = (text-exact s x, texts-read s x p)
 
 not-same : (s t : Timestamp) → Differ s t → s ≡ t → ⊥
 not-same s t d e = ⊎-elim (λ n. n (ap wordIn e)) (λ n. n (ap (λ (x : Timestamp). x .attoseconds) e)) d
 
-beginning-same : (s t : Timestamp) → Accepted s → Accepted t → (r : List ℕ) → valueOf s ++ r ≡ valueOf t → s ≡ t
-beginning-same s t p q r e = value-apart s t p q r [] (e ∙ sym (append-nil (valueOf t)))
+-- bytes u and v that are the same, with any bytes after them, only where s and t are
+module _ {s t : Timestamp} (d : Differ s t) {u v : List ℕ} (apart : (q r : List ℕ) → u ++ q ≡ v ++ r → s ≡ t) where
+  bytes-differ : u ≡ v → ⊥
+  bytes-differ e = not-same s t d (apart [] [] (ap (λ (l : List ℕ). l ++ []) e))
+
+  neither-begins : (r : List ℕ) → (u ++ r ≡ v → ⊥) × (v ++ r ≡ u → ⊥)
+  neither-begins r = (
+    (λ e. not-same s t d (apart r [] (e ∙ sym (append-nil v)))),
+    (λ e. not-same s t d (apart [] r (append-nil u ∙ sym e))),
+  )
 
 module _ (a b : Timestamp) (p : Accepted a) (q : Accepted b) where
   abbrev size : ℕ
@@ -99,6 +127,7 @@ module _ (a b : Timestamp) (p : Accepted a) (q : Accepted b) where
         value-back = (reads-back a p, reads-back b q);
         text-back = (text-reads-back a p, text-reads-back b q);
         texts-exact = (from-texts a p, from-texts b q);
+        scan-back = ((λ t g h k. scan-reads-back (stored a p t g h k)), (λ t g h k. scan-reads-back (stored b q t g h k)));
         same-by-pair = same-answers (built-stamp a (check-accepts a p)) (built-stamp b (check-accepts b q));
         same-by-value = λ d e. (
           value-number a p d,
@@ -110,15 +139,16 @@ module _ (a b : Timestamp) (p : Accepted a) (q : Accepted b) where
           built-number b (text-back b q),
           same-answers (built-stamp a (text-back a p)) (built-stamp b (text-back b q)),
         );
-        texts-written = (writes a p (textOf a), writes b q (textOf b));
-        values-written = (writes a p (valueOf a), writes b q (valueOf b));
+        same-by-scan = λ t g h k u v i j. scans-read (stored a p t g h k) (stored b q u v i j);
+        texts-written = (writes (check-zero a p) (textOf a), writes (check-zero b q) (textOf b));
+        values-written = (writes (check-zero a p) (valueOf a), writes (check-zero b q) (valueOf b));
+        scans-written = ((λ t g h k. scan-writes (stored a p t g h k)), (λ t g h k. scan-writes (stored b q t g h k)));
         texts-differ = λ d e. not-same a b d (text-inj a b p q e);
         texts-apart = λ d s h k. not-same a b d (texts-inj a b s p q h k);
-        values-differ = λ d e. not-same a b d (value-injective a b p q e);
-        no-beginning = λ d r. (
-          (λ e. not-same a b d (beginning-same a b p q r e)),
-          (λ e. not-same a b d (sym (beginning-same b a q p r e))),
-        );
+        values-differ = λ d. bytes-differ d (value-apart a b p q);
+        no-beginning = λ d. neither-begins d (value-apart a b p q);
+        scans-differ = λ d t g h k u v i j. bytes-differ d (scan-stamps (stored a p t g h k) (stored b q u v i j));
+        no-scan-beginning = λ d t g h k u v i j. neither-begins d (scan-stamps (stored a p t g h k) (stored b q u v i j));
       }
 
 -- for every two timestamps that the packed check accepts, whatever their precisions and offsets

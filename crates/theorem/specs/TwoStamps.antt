@@ -22,6 +22,9 @@ use Rattle.ion.specs.Value.ReadValue.{acceptedReading, readValue}
 use Rattle.ion.specs.declared.Timestamp.{Timestamp}
 use Rattle.ion.specs.declared.Fields.{Fields}
 use Rattle.text_reader.specs.Texts.{TextFor}
+use Rattle.scans.specs.Number.{largest}
+use Rattle.scans.specs.Scan.{scanOf, scanBytes, scanNumber, acceptedScan, readScan}
+use Rattle.scans.specs.declared.Scan.{Scan}
 
 -- the fields, with the first value of each that the precision does not have
 abbrev pub withFirstValues : Fields → Fields
@@ -55,28 +58,40 @@ pub data SignOf : ℤ → ℤ → Type 0 where
 abbrev pub Differ : Timestamp → Timestamp → Type 0
 Differ a b = (wordIn a ≡ wordIn b → ⊥) ⊎ (a .attoseconds ≡ b .attoseconds → ⊥)
 
--- what a writer of the bytes b for the timestamp s does in any buffer with room for them: it answers 0 and their number, and writes them
-abbrev pub Writes : Timestamp → List ℕ → Type 0
-Writes s b =
+-- what a writer of the bytes b, whose check gave the number k, does in any buffer with room for them: it answers 0 and their number,
+-- and writes them
+abbrev pub Writes : ℕ → List ℕ → Type 0
+Writes k b =
     (d : List ℕ) (at : ℕ) → at + length b ≤ length d
-    → (wroteAfter (checkNumber s) d at b ≡ record { number = 0; written = length b })
-    × (putAfter (checkNumber s) d at b ≡ over d at b)
+    → (wroteAfter k d at b ≡ record { number = 0; written = length b }) × (putAfter k d at b ≡ over d at b)
 
--- P holds of the bytes that a writer of b for the timestamp s wrote, answering 0, and of the number of bytes that it answered
-abbrev pub AsWritten : Timestamp → List ℕ → (List ℕ → ℕ → Type 0) → Type 0
-AsWritten s b P =
+-- P holds of the bytes that such a writer wrote, answering 0, and of the number of bytes that it answered
+abbrev pub AsWritten : ℕ → List ℕ → (List ℕ → ℕ → Type 0) → Type 0
+AsWritten k b P =
     (d : List ℕ) (at : ℕ)
-    → let w = wroteAfter (checkNumber s) d at b in
-    let e = putAfter (checkNumber s) d at b in
+    → let w = wroteAfter k d at b in
+    let e = putAfter k d at b in
     w .number ≡ 0 → P (take (w .written) (drop at e)) (w .written)
 
 -- what the value writer wrote is read back with any bytes or none after it: the pair, and as many taken as were written
 abbrev pub ReadsBack : Timestamp → Type 0
-ReadsBack s = AsWritten s (valueOf s) (λ v n. (r : List ℕ) → readValue (v ++ r) ≡ acceptedReading s n)
+ReadsBack s = AsWritten (checkNumber s) (valueOf s) (λ v n. (r : List ℕ) → readValue (v ++ r) ≡ acceptedReading s n)
 
 -- what the text writer wrote, and nothing after it, is read back: the pair
 abbrev pub TextReadsBack : Timestamp → Type 0
-TextReadsBack s = AsWritten s (textOf s) (λ x n. readTextOf x ≡ acceptedBuild s)
+TextReadsBack s = AsWritten (checkNumber s) (textOf s) (λ x n. readTextOf x ≡ acceptedBuild s)
+
+-- what the scan writer wrote is read back with any bytes or none after it: the scan, and as many taken as were written
+abbrev pub ScanReadsBack : Scan → Type 0
+ScanReadsBack x = AsWritten (scanNumber x) (scanBytes x) (λ v n. (r : List ℕ) → readScan (v ++ r) ≡ acceptedScan x n)
+
+-- P holds of the scans of the timestamp s, with any tag and any guard up to 4,294,967,295
+abbrev pub EachScan : Timestamp → (Scan → Type 0) → Type 0
+EachScan s P = (tag guard : ℕ) → tag ≤ largest → guard ≤ largest → P (scanOf tag guard s)
+
+-- P holds of any scan of a and any scan of b
+abbrev pub EachTwo : Timestamp → Timestamp → (Scan → Scan → Type 0) → Type 0
+EachTwo a b P = EachScan a (λ x. EachScan b (λ y. P x y))
 
 -- the texts that are read as the timestamp s are its own, and no others
 abbrev pub ReadFromTexts : Timestamp → Type 0
@@ -104,18 +119,27 @@ pub record TwoStamps (a b : Timestamp) : Type 0 where
   -- through the text and back, and from no text but its own
   pub text-back : TextReadsBack a × TextReadsBack b
   pub texts-exact : ReadFromTexts a × ReadFromTexts b
+  -- through a scan and back, with any tag and any guard, and whatever bytes after it
+  pub scan-back : EachScan a ScanReadsBack × EachScan b ScanReadsBack
   -- and then the same answers
   pub same-by-pair : SameAnswers (checkOf a .stamp) (checkOf b .stamp) a b
   pub same-by-value : (d e : List ℕ) → (readValue (valueOf a ++ d) .number ≡ 0) × (readValue (valueOf b ++ e) .number ≡ 0)
       × SameAnswers (readValue (valueOf a ++ d) .stamp) (readValue (valueOf b ++ e) .stamp) a b
   pub same-by-text : (readTextOf (textOf a) .number ≡ 0) × (readTextOf (textOf b) .number ≡ 0)
       × SameAnswers (readTextOf (textOf a) .stamp) (readTextOf (textOf b) .stamp) a b
-  -- text and value are what the writers, given room for them, write
-  pub texts-written : Writes a (textOf a) × Writes b (textOf b)
-  pub values-written : Writes a (valueOf a) × Writes b (valueOf b)
-  -- different timestamps have different texts and values, none that is read as the one is read as the other, and neither value is
-  -- the beginning of the other
+  pub same-by-scan : EachTwo a b (λ x y. (d e : List ℕ)
+      → (readScan (scanBytes x ++ d) .number ≡ 0) × (readScan (scanBytes y ++ e) .number ≡ 0)
+      × SameAnswers (readScan (scanBytes x ++ d) .scan .stamp) (readScan (scanBytes y ++ e) .scan .stamp) a b)
+  -- text, value and scan are what the writers, given room for them, write
+  pub texts-written : Writes (checkNumber a) (textOf a) × Writes (checkNumber b) (textOf b)
+  pub values-written : Writes (checkNumber a) (valueOf a) × Writes (checkNumber b) (valueOf b)
+  pub scans-written : EachScan a (λ x. Writes (scanNumber x) (scanBytes x)) × EachScan b (λ x. Writes (scanNumber x) (scanBytes x))
+  -- different timestamps have different texts, values and scans, no text that is read as the one is read as the other, and no value or
+  -- scan of the one is the beginning of the other's
   pub texts-differ : Differ a b → textOf a ≡ textOf b → ⊥
   pub texts-apart : Differ a b → (s : List ℕ) → TextFor a s → TextFor b s → ⊥
   pub values-differ : Differ a b → valueOf a ≡ valueOf b → ⊥
   pub no-beginning : Differ a b → (r : List ℕ) → (valueOf a ++ r ≡ valueOf b → ⊥) × (valueOf b ++ r ≡ valueOf a → ⊥)
+  pub scans-differ : Differ a b → EachTwo a b (λ x y. scanBytes x ≡ scanBytes y → ⊥)
+  pub no-scan-beginning : Differ a b → EachTwo a b (λ x y. (r : List ℕ)
+      → (scanBytes x ++ r ≡ scanBytes y → ⊥) × (scanBytes y ++ r ≡ scanBytes x → ⊥))

@@ -13,7 +13,7 @@ ghost use mathlib.Core.Path.{_≡_};
 ghost use Prim.Native.Nat.{_+_, _/_, _≤_};
 ghost use lib.ListN.{length, take};
 ghost use Rattle.ion.specs.Pair.Fraction.{scale};
-ghost use Rattle.ion.specs.Calls.Output.{Run, putAfter, wroteAfter};
+ghost use Rattle.ion.specs.Calls.Output.{Run, Between, putAfter, wroteAfter};
 ghost use Rattle.ion.specs.Calls.Check.{checkNumber};
 ghost use Rattle.ion.specs.Calls.Accepted.{Accepted};
 ghost use Rattle.ion.specs.Value.Encode.{offsetBytes, varuints, fieldCount, fractionBytes, bodyOf, valueOf};
@@ -31,7 +31,13 @@ pub const LENGTH_FOLLOWS: u8 = 0x6e;
 pub const MAX_BODY_LENGTH: usize = 18;
 
 // The room for a value.
-const MAX_TIMESTAMP_LENGTH: usize = 32;
+pub const MAX_TIMESTAMP_LENGTH: usize = 32;
+
+// Where bytes stand in an array.
+pub struct Span {
+    pub start: usize,
+    pub end: usize,
+}
 
 // An unknown offset is negative zero.
 fn put_offset(buf: &mut [u8], at: usize, o: Offset) -> usize
@@ -126,7 +132,23 @@ pub fn encode_timestamp(buf: &mut [u8], at: usize, s: Timestamp) -> Written
     output::put_bytes(buf, at, &bytes[..end])
 }
 
-// Writes the value of a timestamp from index `at` on. The header goes into the two bytes before the body.
+// Gathers the value of an accepted timestamp in `bytes`: its header goes into the two bytes before its body.
+pub fn gather_value(bytes: &mut [u8], s: Timestamp) -> Span
+    requires { ⌜ Accepted s × (20 ≤ length (now bytes)) ⌝ }
+    ensures { λ r. ⌜ Between (now (bytes .exit)) (r .start) (r .end) (valueOf s) ⌝ }
+{
+    let end = put_body(bytes, 2, s);
+    let length = end - 2;
+    if length <= MAX_INLINE_LENGTH {
+        bytes[1] = TYPE_DESCRIPTOR + length as u8;
+        return Span { start: 1, end: end };
+    }
+    bytes[0] = LENGTH_FOLLOWS;
+    bytes[1] = END_FLAG + length as u8;
+    Span { start: 0, end: end }
+}
+
+// Writes the value of a timestamp from index `at` on.
 pub fn encode_timestamp_value(buf: &mut [u8], at: usize, s: Timestamp) -> Written
     ensures { λ r. ⌜ r ≡ wroteAfter (checkNumber s) (now (buf .entry)) at (valueOf s) ⌝ }
     ensures { λ _. ⌜ now (buf .exit) ≡ putAfter (checkNumber s) (now (buf .entry)) at (valueOf s) ⌝ }
@@ -139,13 +161,8 @@ pub fn encode_timestamp_value(buf: &mut [u8], at: usize, s: Timestamp) -> Writte
         };
     }
     let mut bytes = [0u8; MAX_TIMESTAMP_LENGTH];
-    let end = put_body(&mut bytes, 2, s);
-    let length = end - 2;
-    if length <= MAX_INLINE_LENGTH {
-        bytes[1] = TYPE_DESCRIPTOR + length as u8;
-        return output::put_bytes(buf, at, &bytes[1..end]);
-    }
-    bytes[0] = LENGTH_FOLLOWS;
-    bytes[1] = END_FLAG + length as u8;
-    output::put_bytes(buf, at, &bytes[..end])
+    let value = gather_value(&mut bytes, s);
+    let start = value.start;
+    let end = value.end;
+    output::put_bytes(buf, at, &bytes[start..end])
 }

@@ -2,12 +2,12 @@
 -- share a value, and no value is the beginning of another. Assumes nothing.
 use mathlib.Core.Path.{_≡_, refl, sym, ap, _∙_}
 use mathlib.Core.Bool.{Bool, true, false, cond, and-eq-true-iff}
-use mathlib.Core.List.{List, [], _∷_, _++_, append-nil}
+use mathlib.Core.List.{List, [], _∷_, _++_}
 use Prim.Native.Nat.{ℕ, suc, _+_, _-_, _≤_, _<_}
 use native.Mathlib.Omega.{arith}
 use borrow.Author.Tests.{ltb-false, eqb-true, eqb-false}
 use lib.Dec.{eqb, ltb}
-use lib.ListN.{length, take, drop, take-append-drop}
+use lib.ListN.{length, take, drop, length-append, take-append-drop}
 use lib.Seq.{length-take-le}
 use Rattle.ion.specs.Calls.Refusal.{inputEnds, firstByteRefused, bodyRefused}
 use Rattle.ion.specs.Calls.Check.{checkNumber}
@@ -21,6 +21,7 @@ use Rattle.ion.specs.declared.Read.{Read}
 use Rattle.ion.proofs.Same.{same-is}
 use Rattle.timestamp.proofs.Accepts.{check-gives}
 use Rattle.timestamp_binary.proofs.Headers.{header-short, header-long}
+use Rattle.timestamp_binary.proofs.Lengths.{value-some}
 use Rattle.value_reader.proofs.ReadSteps.{outside, outside-false}
 use Rattle.value_reader.proofs.Values.{value-back}
 
@@ -136,6 +137,14 @@ read-is (d ∷ s) e = first (outside 0x60 0x6e d) refl e
         let p = outside-false 0x60 0x6e d q in
         second (eqb d 0x6e) refl (p .0) (p .1) e
 
+-- it takes three bytes at least, and no more than there are
+pub value-within : (b : List ℕ) → readValue b .number ≡ 0 → (3 ≤ readValue b .taken) × (readValue b .taken ≤ length b)
+value-within b e =
+    let r = read-is b e in
+    let s = readValue b .stamp in
+    let n = length-append (valueOf s) (drop (readValue b .taken) b) in
+    (omega (arith, r .taken, value-some s), omega (arith, r .taken, ap length (r .bytes), n))
+
 -- ---- two timestamps
 
 -- if one value with bytes after it is another with bytes after it, the timestamps are the same
@@ -144,6 +153,3 @@ value-apart s t p u q r e =
     let a = ap (λ (x : Read). x .stamp) (value-back s p q) in
     let b = ap (λ (x : Read). x .stamp) (value-back t u r) in
     sym a ∙ ap (λ (x : List ℕ). readValue x .stamp) e ∙ b
-
-pub value-injective : (s t : Timestamp) → Accepted s → Accepted t → valueOf s ≡ valueOf t → s ≡ t
-value-injective s t p u e = value-apart s t p u [] [] (append-nil (valueOf s) ∙ e ∙ sym (append-nil (valueOf t)))

@@ -5,16 +5,15 @@ use lib.Dec.{eqb, ltb}
 use lib.IntN.{ℤ, pos, negsuc, natAbs, _-ℤ_}
 use Rattle.ion.specs.Pair.Pair.{wordIn, samePair}
 use Rattle.ion.specs.Pair.Count.{countOf}
-use Rattle.ion.specs.Calls.Answered.{answered}
+use Rattle.ion.specs.Calls.Answered.{answered, firstRefusal}
 use Rattle.ion.specs.Calls.Check.{checkNumber}
 use Rattle.ion.specs.declared.Timestamp.{Timestamp}
 use Rattle.ion.specs.declared.Ordered.{Ordered}
 use Rattle.ion.specs.declared.Compared.{Compared}
 use Rattle.ion.specs.declared.Distance.{Distance}
 
--- the first number that is not 0
 abbrev pub checkBoth : Timestamp → Timestamp → ℕ
-checkBoth s t = answered (checkNumber s) (checkNumber t) (λ n. n)
+checkBoth s t = firstRefusal (checkNumber s) (checkNumber t)
 
 -- ---- order: -1, 0 or 1
 

@@ -1,5 +1,5 @@
 -- What a writer leaves in a lent buffer, and what it answers. Assumes nothing.
-use Prim.Native.Nat.{ℕ, _+_}
+use Prim.Native.Nat.{ℕ, _+_, _-_, _≤_}
 use mathlib.Core.Bool.{Bool, cond}
 use mathlib.Core.List.{List, _++_}
 use mathlib.Core.Path.{_≡_}
@@ -43,3 +43,9 @@ wroteAfter n d at s = answered n (wrote d at s) refusedWriting
 pub record Run (d : List ℕ) (at : ℕ) (s e : List ℕ) (r : ℕ) : Type 0 where
   pub bytes : e ≡ over d at s
   pub next : r ≡ at + length s
+
+-- the bytes of e from index a up to index b are s
+pub record Between (e : List ℕ) (a b : ℕ) (s : List ℕ) : Type 0 where
+  pub from : a ≤ b
+  pub to : b ≤ length e
+  pub bytes : take (b - a) (drop a e) ≡ s

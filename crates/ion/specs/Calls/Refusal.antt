@@ -72,3 +72,7 @@ longInput = 17
 -- text in none of the forms
 abbrev pub formBroken : ℕ
 formBroken = 18
+
+-- number of a scan padded, without an end mark in five bytes, or above 4,294,967,295
+abbrev pub numberRefused : ℕ
+numberRefused = 19

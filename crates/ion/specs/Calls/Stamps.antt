@@ -1,33 +1,36 @@
 -- What the program `stamps` prints for an input. Assumes nothing.
-use Prim.Native.Nat.{ℕ, zero, suc}
+use Prim.Native.Nat.{ℕ}
 use Prim.Native.Char.{code}
 use mathlib.Core.Bool.{cond}
 use mathlib.Core.List.{List, [], _∷_, _++_}
-use lib.Dec.{eqb, ltb}
-use lib.ListN.{length, drop}
+use lib.Dec.{ltb}
+use lib.ListN.{length}
 use Rattle.ion.specs.Calls.Refusal.{longInput}
+use Rattle.ion.specs.Calls.Answered.{answered}
+use Rattle.ion.specs.Calls.Contents.{Reader, Contents, contents, inTurn}
 use Rattle.ion.specs.Text.Ascii.{ascii}
 use Rattle.ion.specs.Numbers.Padded.{padded}
 use Rattle.ion.specs.Text.Format.{textOf}
 use Rattle.ion.specs.Value.ReadValue.{readValue}
+use Rattle.ion.specs.declared.Timestamp.{Timestamp}
 
 abbrev pub lineOf : List ℕ → List ℕ
 lineOf s = s ++ (code "\n" ∷ [])
 
+abbrev pub textLine : Timestamp → List ℕ
+textLine s = lineOf (textOf s)
+
 abbrev pub stopLine : ℕ → List ℕ
 stopLine n = lineOf (ascii "stop " ++ padded 1 n)
 
--- a line for each value, of which n are read at most; `more` is looked at only where the value is accepted
-unfoldable pub linesOf : ℕ → List ℕ → List ℕ
-linesOf zero s = []
-linesOf (suc n) [] = []
-linesOf (suc n) (b ∷ s) =
-    let r = readValue (b ∷ s) in
-    let more = lineOf (textOf (r .stamp)) ++ linesOf n (drop (r .taken) (b ∷ s)) in
-    cond (eqb (r .number) 0) more (stopLine (r .number))
+abbrev pub valueReader : Reader Timestamp
+valueReader = record { number = λ s. readValue s .number; item = λ s. readValue s .stamp; taken = λ s. readValue s .taken }
 
--- an input has no more values than bytes
+-- a line for each timestamp, and one more where the bytes do not read to their end
+unfoldable pub linesOf : Contents Timestamp → List ℕ
+linesOf c = inTurn textLine (c .items) ++ answered (c .number) [] stopLine
+
 unfoldable pub outputOf : List ℕ → List ℕ
 outputOf s =
-    let lines = linesOf (length s) s in
+    let lines = linesOf (contents valueReader s) in
     cond (ltb 65536 (length s)) (stopLine longInput) lines

@@ -3,20 +3,20 @@
 use borrow.Author.Needs.{needs}
 use mathlib.Core.Path.{_≡_, sym, ap, _∙_, subst}
 use mathlib.Core.List.{List}
-use Prim.Native.Nat.{ℕ, _+_, _-_, _≤_}
+use Prim.Native.Nat.{ℕ, _-_, _≤_}
 use native.Mathlib.Omega.{arith}
-use lib.ListN.{length, drop, length-drop}
-use lib.Seq.{take-all}
+use lib.ListN.{length, drop}
 use Rattle.ion.specs.Calls.Accepted.{Accepted}
-use Rattle.ion.specs.Calls.Output.{Run}
+use Rattle.ion.specs.Calls.Stamps.{valueReader}
 use Rattle.ion.specs.Value.ReadValue.{readValue}
-use Rattle.ion.specs.Calls.Stamps.{stopLine, lineOf}
-use Rattle.ion.specs.Text.Format.{textOf}
 use Rattle.ion.specs.declared.Read.{Read}
 use Rattle.value_reader.proofs.Readings.{read-is}
-use Rattle.listing.proofs.Lines.{taken-some, output-long, output-lines}
+use Rattle.contents.proofs.Readers.{ReadsAs}
+use Rattle.places.proofs.Slices.{rest-slice}
+use Rattle.contents.proofs.Passing.{pass-within, pass-less}
+use Rattle.listing.proofs.Lines.{value-advances, output-long}
 use Rattle.listing.proofs.Numbers.{read-number}
-use Rattle.listing.proofs.Listed.{Listed, start, line-room, taken-fits, next, stop, finish}
+use Rattle.listing.proofs.Listed.{Listed, start, size, line-room, next, stop, finish}
 use Rattle.listing.proofs.list.Statement.{statement}
 use Rattle.listing.proofs.list.Tie as tie
 
@@ -38,100 +38,83 @@ abbrev rest : tie.At-loop Inv-loop μ-loop → List ℕ
 rest l = drop (l .loop .at) (l .before .before .before .before .args .input .now)
 
 -- what was read of it
-whole : (v : tie.After-read-value Inv-loop μ-loop) → v .read-value .result ≡ readValue (rest (v .before .before .before))
-whole v =
-    let l = v .before .before .before in
-    let input = l .before .before .before .before .args .input .now in
-    let n = length-drop (l .loop .at) input in
-    v .read-value .ensures ∙ ap readValue (take-all (length input - l .loop .at) (rest l) (omega (arith, n)))
+module _ (v : tie.After-read-value Inv-loop μ-loop) where
+  whole : readValue (rest (v .before .before .before)) ≡ v .read-value .result
+  whole =
+      let l = v .before .before .before in
+      let input = l .before .before .before .before .args .input .now in
+      sym (v .read-value .ensures ∙ ap readValue (rest-slice input (l .loop .at)))
 
-number : (v : tie.After-read-value Inv-loop μ-loop) → v .read-value .result .number ≡ readValue (rest (v .before .before .before)) .number
-number v = ap (λ (r : Read). r .number) (whole v)
+  number : readValue (rest (v .before .before .before)) .number ≡ v .read-value .result .number
+  number = ap (λ (r : Read). r .number) whole
+
+  reads : v .read-value .result .number ≡ 0
+      → ReadsAs valueReader (rest (v .before .before .before)) (v .read-value .result .stamp) (v .read-value .result .taken)
+  reads e = record { number = number ∙ e; item = ap (λ (r : Read). r .stamp) whole; taken = ap (λ (r : Read). r .taken) whole }
 
 put-stop-requires-2 : tie.Need-put-stop-requires-2 Inv-loop μ-loop
 put-stop-requires-2 c κs =
     let v = c .before .before in
     let l = v .before .before .before in
     let p = l .loop .inv in
-    let room = l .before .before .before .before .pre in
-    (omega (arith, p .few, p .within, p .size, room), omega (arith, number v, read-number (rest l)))
+    (omega (arith, p .few, p .passed .within, p .room, size p), omega (arith, number v, read-number (rest l)))
 
 same-length-2 : tie.Need-same-length-2 Inv-loop μ-loop
 same-length-2 c =
     let t = c .before .before in
-    t .put-stop2 .kept .0 ∙ t .before .before .before .before .before .before .loop .inv .size
+    t .put-stop2 .kept .0 ∙ size (t .before .before .before .before .before .before .loop .inv)
 
 returns-2 : tie.Need-returns-2 Inv-loop μ-loop
 returns-2 c =
     let t = c .before .before in
     let v = t .before .before .before in
-    let l = v .before .before .before in
-    let s = l .before .before .before .before in
+    let n = v .before .before in
+    let l = n .before in
     let p = l .loop .inv in
-    let r = t .put-stop2 in
-    let more = v .before .before .loop-test .taken in
-    let bad : readValue (rest l) .number ≡ 0 → ⊥ = λ z. t .before .before .if2 .taken (number v ∙ z) in
-    let run = subst (λ (k : ℕ). Run (l .loop .buf) (l .loop .end) (stopLine k) (r .last .0) (r .result)) (number v) (r .ensures .0) in
-    let fits : r .result ≤ length (s .args .buf .now) = omega (arith, r .ensures .1, p .few, p .within, s .pre) in
-    (rw (output-lines (s .args .input .now) (l .before .if1 .left)) (stop p (s .pre) more bad run fits), fits)
+    let r = t .put-stop2 .ensures in
+    let fits : t .put-stop2 .result ≤ length (l .before .before .before .before .args .buf .now) =
+    omega (arith, r .1, p .few, p .passed .within, p .room) in
+    (stop p (l .before .if1 .left) (n .loop-test .taken) (number v) (t .before .before .if2 .taken) (r .0) fits, fits)
 
 put-text-requires : tie.Need-put-text-requires Inv-loop μ-loop
 put-text-requires c κs =
     let v = c .before .before in
     let l = v .before .before .before in
-    let room = l .before .before .before .before .pre in
-    let ok = sym (number v) ∙ c .before .if2 .left in
-    let accepted = subst (λ (r : Read). Accepted (r .stamp)) (sym (whole v)) (read-is (rest l) ok .accepted) in
-    (line-room (l .loop .inv) room (v .before .before .loop-test .taken) ok, accepted)
+    let r = reads v (c .before .if2 .left) in
+    (omega (arith, line-room (l .loop .inv) r, size (l .loop .inv)), subst Accepted (r .item) (read-is (rest l) (r .number) .accepted))
 
 -- ---- after a line
-
-module _ (c : tie.After-put-text Inv-loop μ-loop) where
-  ok : readValue (rest (c .before .before .before .before .before .before)) .number ≡ 0
-  ok = sym (number (c .before .before .before)) ∙ c .before .before .if2 .left
-
-  taken : c .before .before .before .read-value .result .taken ≡ readValue (rest (c .before .before .before .before .before .before)) .taken
-  taken = ap (λ (r : Read). r .taken) (whole (c .before .before .before))
 
 add-at : tie.Need-add-at Inv-loop μ-loop
 add-at c =
     let t = c .before .before .before in
-    let n = t .before .before .before .before .before in
-    let l = n .before in
-    let s = l .before .before .before .before in
-    omega (arith, taken-fits (l .loop .inv) (s .pre) (n .loop-test .taken) (ok t), taken t, s .good .0)
+    let v = t .before .before .before in
+    let l = v .before .before .before in
+    let good = l .before .before .before .before .good in
+    omega (arith, pass-within (l .loop .inv .passed) value-advances (reads v (t .before .before .if2 .left)), good .0)
 
 loop-less : tie.Need-loop-less Inv-loop μ-loop
 loop-less c =
     let t = c .before .before .before in
-    let n = t .before .before .before .before .before in
-    omega (arith, taken t, taken-some (rest (n .before)) (ok t), n .loop-test .taken)
+    let v = t .before .before .before in
+    pass-less (v .before .before .before .loop .inv .passed) value-advances (reads v (t .before .before .if2 .left))
 
 loop-again : tie.Need-loop-again Inv-loop μ-loop
 loop-again c =
     let t = c .before .before .before in
     let v = t .before .before .before in
-    let n = v .before .before in
-    let l = n .before in
-    let s = l .before .before .before .before in
-    let r = t .put-text in
-    let b = r .last .0 in
-    let e = r .result in
-    let run = subst (λ (r : Read). Run (l .loop .buf) (l .loop .end) (lineOf (textOf (r .stamp))) b e) (whole v) (r .ensures .0) in
-    subst (λ (k : ℕ). Listed (s .args .input .now) (s .args .buf .now) b (l .loop .at + k) e) (sym (taken t))
-    (next (l .loop .inv) (s .pre) (n .loop-test .taken) (ok t) run (r .ensures .1))
+    let r = t .put-text .ensures in
+    next (v .before .before .before .loop .inv) (reads v (t .before .before .if2 .left)) (r .0) (r .1)
 
 returns-3 : tie.Need-returns-3 Inv-loop μ-loop
 returns-3 c =
     let l = c .before in
-    let s = l .before .before .before .before in
     let p = l .loop .inv in
-    let e = output-lines (s .args .input .now) (l .before .if1 .left) in
-    (rw e (finish p (s .pre) (c .loop-test .left)), omega (arith, p .few, p .within, s .pre))
+    (finish p (l .before .if1 .left) (c .loop-test .left), omega (arith, p .few, p .passed .within, p .room))
 
 pub list-spec : {M : Type 1} → statement M
 list-spec =
     tie.close
-    (tie.spec Inv-loop μ-loop (λ c κs. search needs) (λ c. search needs) returns (λ c. start _ _)
+    (tie.spec Inv-loop μ-loop (λ c κs. search needs) (λ c. search needs) returns (λ c. start _ _ (c .before .before .before .pre))
     (λ c. search needs) (λ c. search needs) (λ c. search needs) (λ c κs. search needs) put-stop-requires-2 same-length-2 returns-2
-    put-text-requires add-at loop-less loop-again (λ c. c .before .loop .inv .size) returns-3)
+    put-text-requires add-at loop-less loop-again (λ c. size (c .before .loop .inv)) returns-3)

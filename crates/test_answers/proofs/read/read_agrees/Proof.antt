@@ -4,7 +4,7 @@ use borrow.Author.Tests.{lt-leb, le-leb}
 use borrow.Author.Needs.{needs}
 use Rattle.ion.specs.Value.ReadValue.{readValue}
 use Rattle.test_answers.specs.Agreement.{readAgrees}
-use Rattle.test_answers.proofs.Rest.{rest-is}
+use Rattle.places.proofs.Slices.{rest-slice}
 use Rattle.test_answers.proofs.read.read_agrees.Statement.{statement}
 use Rattle.test_answers.proofs.read.read_agrees.Tie as tie
 
@@ -19,7 +19,7 @@ returns-2 c =
     let b = n .before in
     let v = b .before .before in
     let e = v .before .before in
-    let q = v .read-value .ensures ∙ ap readValue (rest-is 19 (e .before .before .args .r .now)) in
+    let q = v .read-value .ensures ∙ ap readValue (rest-slice (e .before .before .args .r .now) 19) in
     rw (le-leb _ _ (e .if1 .left)) (rw (b .is-built .ensures, n .count-at .ensures .0, q))
 
 pub read-agrees-spec : {M : Type 1} → statement M

@@ -4,7 +4,7 @@ use borrow.Author.Tests.{lt-leb, le-leb}
 use borrow.Author.Needs.{needs}
 use Rattle.ion.specs.Text.ReadText.{readTextOf}
 use Rattle.test_answers.specs.Agreement.{textAgrees}
-use Rattle.test_answers.proofs.Rest.{rest-is}
+use Rattle.places.proofs.Slices.{rest-slice}
 use Rattle.test_answers.proofs.read.text_agrees.Statement.{statement}
 use Rattle.test_answers.proofs.read.text_agrees.Tie as tie
 
@@ -17,7 +17,7 @@ unfolding textAgrees
 returns-2 c =
     let v = c .before in
     let e = v .before .before in
-    let q = v .read-text .ensures ∙ ap readTextOf (rest-is 18 (e .before .before .args .r .now)) in
+    let q = v .read-text .ensures ∙ ap readTextOf (rest-slice (e .before .before .args .r .now) 18) in
     rw (le-leb _ _ (e .if1 .left)) (rw (c .is-built .ensures, q))
 
 pub text-agrees-spec : {M : Type 1} → statement M

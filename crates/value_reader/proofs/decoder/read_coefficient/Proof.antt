@@ -1,32 +1,26 @@
 -- `decoder::read_coefficient` meets its contract. Assumes nothing.
 use borrow.Author.Needs.{needs}
-use mathlib.Core.Path.{_≡_, sym, ap, _∙_}
-use mathlib.Core.List.{List}
-use Prim.Native.Nat.{ℕ, _-_}
-use native.Mathlib.Omega.{arith}
-use lib.ListN.{length, take, drop, length-drop}
-use lib.Seq.{take-all}
+use mathlib.Core.Path.{sym, ap, _∙_}
+use Rattle.places.proofs.Slices.{rest-slice}
 use Rattle.ion.specs.Numbers.Int.{readInt}
 use Rattle.ion.specs.Value.Decode.{coefficientFrom}
 use Rattle.value_reader.proofs.decoder.read_coefficient.Statement.{statement}
 use Rattle.value_reader.proofs.decoder.read_coefficient.Tie as tie
-
--- the part from an index to the end is what is dropped to there
-part : (s : List ℕ) (at : ℕ) → readInt (drop at s) ≡ readInt (take (length s - at) (drop at s))
-part s at = ap readInt (sym (take-all (length s - at) (drop at s) (omega (arith, length-drop at s))))
 
 returns : tie.Need-returns
 returns c =
     let k = c .before in
     let r = k .before .before in
     let a = r .before .before .before .args in
-    sym (ap (coefficientFrom (a .digits)) (part (a .s .now) (a .at) ∙ sym (r .read-u64 .ensures .0) ∙ k .c .given .1))
+    let rest = ap readInt (sym (rest-slice (a .s .now) (a .at))) in
+    sym (ap (coefficientFrom (a .digits)) (rest ∙ sym (r .read-u64 .ensures .0) ∙ k .c .given .1))
 
 returns-2 : tie.Need-returns-2
 returns-2 c =
     let r = c .before .before in
     let a = r .before .before .before .args in
-    sym (ap (coefficientFrom (a .digits)) (part (a .s .now) (a .at) ∙ sym (r .read-u64 .ensures .0) ∙ c .enum-told .given .1))
+    let rest = ap readInt (sym (rest-slice (a .s .now) (a .at))) in
+    sym (ap (coefficientFrom (a .digits)) (rest ∙ sym (r .read-u64 .ensures .0) ∙ c .enum-told .given .1))
 
 pub read-coefficient-spec : {M : Type 1} → statement M
 read-coefficient-spec =

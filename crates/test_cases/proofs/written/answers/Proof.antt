@@ -1,11 +1,11 @@
--- `test_answers::written::answers` meets its contract. Assumes nothing.
+-- `test_cases::written::answers` meets its contract. Assumes nothing.
 use mathlib.Core.Path.{sym}
 use native.Mathlib.Omega.{arith}
 use lib.ListN.{length-append, length-drop}
 use lib.Seq.{length-take-le}
 use borrow.Author.Needs.{needs}
-use Rattle.test_answers.proofs.written.answers.Statement.{statement}
-use Rattle.test_answers.proofs.written.answers.Tie as tie
+use Rattle.test_cases.proofs.written.answers.Statement.{statement}
+use Rattle.test_cases.proofs.written.answers.Tie as tie
 
 slice-aggregate-write : tie.Need-slice-aggregate-write
 slice-aggregate-write c = let r = c .before in sym (length-take-le (r .before .before .before .args .size) (r .room .result) (search needs))

@@ -1,0 +1,1 @@
+// No functions: laws of items read one after another.

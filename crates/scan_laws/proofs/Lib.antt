@@ -1,0 +1,4 @@
+pub mod Numbers
+pub mod Reading
+pub mod Scans
+pub mod Files

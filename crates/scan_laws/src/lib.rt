@@ -1,0 +1,1 @@
+// No functions: laws of the bytes of scans and of files.

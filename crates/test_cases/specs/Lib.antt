@@ -1,0 +1,2 @@
+-- What the contracts of recorded answers of scans cite beside the definitions of `ion` and `scans`.
+pub mod Agreement
