@@ -1,4 +1,4 @@
-//! Prints the times of the calls: `bench [SEED]`. What is timed, and on what, stands in differential/src/timing.rs.
+//! Prints the times of the calls: `bench [SEED]`. What is timed, and on what, stands in differential/src/timing.
 
 use differential::{ours::Ours, timing};
 use std::env;

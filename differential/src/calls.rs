@@ -173,6 +173,29 @@ pub struct Read {
     pub taken: usize,
 }
 
+/// A guard's scan of a tag.
+#[derive(Clone, Copy, PartialEq, Eq, Debug, Default)]
+pub struct Scan {
+    pub tag: u32,
+    pub guard: u32,
+    pub pair: Pair,
+}
+
+/// A scan and how many bytes it took: 0 in every part beside a refusal.
+#[derive(Clone, Copy, PartialEq, Eq, Debug, Default)]
+pub struct ScanRead {
+    pub number: u32,
+    pub scan: Scan,
+    pub taken: usize,
+}
+
+/// How many scans a file holds: 0 beside a refusal.
+#[derive(Clone, Copy, PartialEq, Eq, Debug, Default)]
+pub struct FileRead {
+    pub number: u32,
+    pub scans: usize,
+}
+
 /// What is read from a timestamp: all 0 and no offset beside a refusal.
 #[derive(Clone, Copy, PartialEq, Eq, Debug, Default)]
 pub struct Fields {
@@ -227,6 +250,13 @@ pub trait Library {
     fn read(&self, input: &[u8]) -> Read;
     /// The timestamp whose text the whole input is.
     fn read_text(&self, input: &[u8]) -> Built;
+
+    /// The scan with which the input begins.
+    fn read_scan(&self, input: &[u8]) -> ScanRead;
+    /// Writes a scan from a place of the buffer on.
+    fn write_scan(&self, scan: Scan, buffer: &mut [u8], at: usize) -> Written;
+    /// Reads a whole file of scans.
+    fn check_file(&self, file: &[u8]) -> FileRead;
 
     fn write_var_uint(&self, value: u64, buffer: &mut [u8]) -> Option<Written>;
     fn write_var_int(&self, value: i64, buffer: &mut [u8]) -> Option<Written>;

@@ -9,6 +9,9 @@ const VALUE_EDGES: [u8; 15] =
 /// A text's marks, digits, what stands beside them in ASCII, and bytes that no text has.
 const TEXT_EDGES: [u8; 22] = *b"01569/:;-+,.TZtz \n\0\x7F\x80\xFF";
 
+/// Bytes at the edges of a tag or a guard, and of a value's first byte.
+const SCAN_EDGES: [u8; 12] = [0x00, 0x01, 0x0F, 0x10, 0x5F, 0x60, 0x6E, 0x6F, 0x7F, 0x80, 0x82, 0xFF];
+
 pub fn value(random: &mut Random, good: &[u8]) -> Vec<u8> {
     let (mut bytes, by) = damaged(random, good, &VALUE_EDGES);
     if by != 0 {
@@ -19,6 +22,14 @@ pub fn value(random: &mut Random, good: &[u8]) -> Vec<u8> {
 
 pub fn text(random: &mut Random, good: &[u8]) -> Vec<u8> {
     damaged(random, good, &TEXT_EDGES).0
+}
+
+/// Where there is nothing to damage, a byte.
+pub fn scans(random: &mut Random, good: &[u8]) -> Vec<u8> {
+    if good.is_empty() {
+        return vec![random.pick(&SCAN_EDGES)];
+    }
+    damaged(random, good, &SCAN_EDGES).0
 }
 
 /// The damaged copy, and 1 or -1 where a byte was put in or taken out.

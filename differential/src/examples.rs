@@ -12,6 +12,8 @@ pub enum Source {
     Others,
     /// docs/SCOPE.md: the sentences on reading a text.
     Texts,
+    /// docs/SCOPE.md: the sentences on scans and their files.
+    Scans,
     /// The Ion 1.0 specification, section "Timestamp": texts, and which of them are one instant.
     IonText,
     /// The Ion 1.0 binary encoding, section "6: Timestamp": values of 2000-01-01T00:00:00, with and without a fraction.
@@ -22,14 +24,22 @@ pub enum Source {
 }
 
 impl Source {
-    pub const ALL: [Source; 6] =
-        [Source::Numbered, Source::Others, Source::Texts, Source::IonText, Source::IonBinary, Source::ByHand];
+    pub const ALL: [Source; 7] = [
+        Source::Numbered,
+        Source::Others,
+        Source::Texts,
+        Source::Scans,
+        Source::IonText,
+        Source::IonBinary,
+        Source::ByHand,
+    ];
 
     pub fn name(self) -> &'static str {
         match self {
             Source::Numbered => "docs/SCOPE.md, P1 to P12",
             Source::Others => "docs/SCOPE.md, other examples",
             Source::Texts => "docs/SCOPE.md, reading a text",
+            Source::Scans => "docs/SCOPE.md, files of scans",
             Source::IonText => "Ion 1.0 specification, Timestamp",
             Source::IonBinary => "Ion 1.0 binary encoding, 6: Timestamp",
             Source::ByHand => "worked by hand from docs/SCOPE.md",

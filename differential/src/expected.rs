@@ -4,6 +4,7 @@ use crate::calls::*;
 use crate::model;
 use crate::oracle::{self, Answer};
 use crate::reader;
+use crate::scans::{self, Contents};
 use crate::text_reader;
 
 /// What the library must answer, or why the Rust has no answer to hold it against.
@@ -66,4 +67,13 @@ pub fn read_text(input: &[u8]) -> Expected<Built> {
         Ok(build) => built(oracle::build(&build)),
         Err(refused) => Ok(refused),
     }
+}
+
+/// The numbers by the request, the value as above.
+pub fn read_scan(input: &[u8]) -> ScanRead {
+    scans::read(input, read)
+}
+
+pub fn contents(file: &[u8]) -> Contents {
+    scans::contents(file, read_scan)
 }

@@ -1,6 +1,6 @@
 //! Cases drawn at random, with the edges more frequent than chance would make them.
 
-use crate::calls::{Build, Fraction, Offset, Pair, Stage};
+use crate::calls::{Build, Fraction, Offset, Pair, Scan, Stage};
 use crate::model::{self, calendar, fields};
 use crate::oracle::{self, Answer};
 use crate::random::Random;
@@ -261,6 +261,21 @@ pub fn at_count(random: &mut Random, count: i128, offset: Option<i32>) -> Option
             in_utc: false,
         })
     })
+}
+
+/// The first and the last tag or guard of each length, from one byte to five.
+pub const SCAN_NUMBERS: [u32; 10] = [0, 127, 128, 16383, 16384, 2097151, 2097152, 268435455, 268435456, 4294967295];
+
+/// A tag or a guard.
+fn scan_number(random: &mut Random) -> u32 {
+    match random.below(4) {
+        0 => random.pick(&SCAN_NUMBERS),
+        _ => random.any_size() as u32,
+    }
+}
+
+pub fn scan(random: &mut Random) -> Scan {
+    Scan { tag: scan_number(random), guard: scan_number(random), pair: accepted(random) }
 }
 
 /// The text of a drawn pair, in any of its spellings.

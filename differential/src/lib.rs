@@ -32,6 +32,8 @@ pub mod reader;
 pub mod readings;
 pub mod record;
 pub mod refusals;
+pub mod scan_readings;
+pub mod scans;
 pub mod text_reader;
 pub mod timing;
 

@@ -4,7 +4,7 @@
 use crate::binary::timestamp::TimestampBinaryEncoder;
 use crate::binary::var_int::VarInt;
 use crate::binary::var_uint::VarUInt;
-use crate::calls::{Build, DateTime, Fields, Fraction, Offset, Pair, Stage};
+use crate::calls::{Build, DateTime, Fields, Fraction, Offset, Pair, Scan, Stage};
 use crate::decimal::{Coefficient, Sign};
 use crate::ion_data::{IonDataOrd, IonEq};
 use crate::refusals::number_of_text;
@@ -241,6 +241,25 @@ pub fn body(pair: Pair) -> Answer<Vec<u8>> {
 
 pub fn value(pair: Pair) -> Answer<Vec<u8>> {
     on_one(pair, |stamp| written(|bytes| bytes.encode_timestamp_value(stamp)))
+}
+
+/// The Rust's writers one after another: two VarUInts and a value.
+pub fn scan(scan: Scan) -> Answer<Vec<u8>> {
+    on_one(scan.pair, |stamp| {
+        written(|bytes| {
+            let numbers = VarUInt::write_u64(bytes, scan.tag as u64)? + VarUInt::write_u64(bytes, scan.guard as u64)?;
+            Ok(numbers + bytes.encode_timestamp_value(stamp)?)
+        })
+    })
+}
+
+/// Accepted scans one after another.
+pub fn file(scans: &[Scan]) -> Vec<u8> {
+    let bytes = |each: &Scan| match scan(*each) {
+        Answer::Accepted(bytes) => bytes,
+        other => panic!("{each:?}: {other:?}"),
+    };
+    scans.iter().flat_map(bytes).collect()
 }
 
 // ---- two timestamps

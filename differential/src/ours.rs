@@ -54,6 +54,26 @@ extern "C" {
     fn timestamp_read(input: *const u8, length: usize, word: &mut u64, attoseconds: &mut u64, taken: &mut usize)
         -> u32;
     fn timestamp_read_text(input: *const u8, length: usize, word: &mut u64, attoseconds: &mut u64) -> u32;
+    fn scan_read(
+        input: *const u8,
+        length: usize,
+        tag: &mut u32,
+        guard: &mut u32,
+        word: &mut u64,
+        attoseconds: &mut u64,
+        taken: &mut usize,
+    ) -> u32;
+    fn scan_write(
+        tag: u32,
+        guard: u32,
+        word: u64,
+        attoseconds: u64,
+        buffer: *mut u8,
+        length: usize,
+        at: usize,
+        written: &mut usize,
+    ) -> u32;
+    fn file_check(file: *const u8, length: usize, scans: &mut usize) -> u32;
     fn write_var_uint(value: u64, buffer: *mut u8, length: usize, written: &mut usize) -> u32;
     fn write_var_int(value: i64, buffer: *mut u8, length: usize, written: &mut usize) -> u32;
     fn write_zero_padded(value: u64, width: usize, buffer: *mut u8, length: usize, written: &mut usize) -> u32;
@@ -261,6 +281,27 @@ impl Library for Ours {
 
     fn read_text(&self, input: &[u8]) -> Built {
         built(|word, attoseconds| unsafe { timestamp_read_text(input.as_ptr(), input.len(), word, attoseconds) })
+    }
+
+    fn read_scan(&self, input: &[u8]) -> ScanRead {
+        let (mut tag, mut guard, mut taken) = (u32::MAX, u32::MAX, usize::MAX);
+        let Built { number, pair } = built(|word, attoseconds| unsafe {
+            scan_read(input.as_ptr(), input.len(), &mut tag, &mut guard, word, attoseconds, &mut taken)
+        });
+        ScanRead { number, scan: Scan { tag, guard, pair }, taken }
+    }
+
+    fn write_scan(&self, scan: Scan, buffer: &mut [u8], at: usize) -> Written {
+        let Scan { tag, guard, pair } = scan;
+        written(buffer, |start, length, written| unsafe {
+            scan_write(tag, guard, pair.word, pair.attoseconds, start, length, at, written)
+        })
+    }
+
+    fn check_file(&self, file: &[u8]) -> FileRead {
+        let mut scans = usize::MAX;
+        let number = unsafe { file_check(file.as_ptr(), file.len(), &mut scans) };
+        FileRead { number, scans }
     }
 
     fn write_var_uint(&self, value: u64, buffer: &mut [u8]) -> Option<Written> {

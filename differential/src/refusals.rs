@@ -17,6 +17,7 @@ pub const FIRST_BYTE: u32 = 14;
 pub const BODY: u32 = 15;
 pub const SHORT_BUFFER: u32 = 16;
 pub const FORM: u32 = 18;
+pub const NUMBER: u32 = 19;
 
 /// How each error text begins, and its number.
 const TEXTS: [(&str, u32); 11] = [

@@ -1,7 +1,7 @@
 //! Sections drawn at random from a seed.
 
 use super::{Cases, Options, Section};
-use crate::calls::{Build, Pair};
+use crate::calls::{Build, Pair, Scan};
 use crate::damage;
 use crate::generate;
 use crate::model::fields;
@@ -10,7 +10,7 @@ use crate::random::Random;
 
 pub fn sections<'a, C: Cases + 'a>(options: Options) -> Vec<Section<'a, C>> {
     type Draw<C> = fn(&mut C, &mut Random);
-    let draws: [(&'static str, Draw<C>); 12] = [
+    let draws: [(&'static str, Draw<C>); 15] = [
         ("field sets", field_sets),
         ("pairs and changed pairs", pairs),
         ("two pairs far apart", far_apart),
@@ -23,6 +23,9 @@ pub fn sections<'a, C: Cases + 'a>(options: Options) -> Vec<Section<'a, C>> {
         ("shifts", shifts),
         ("texts and damaged texts", texts),
         ("texts of any numbers", texts_of_numbers),
+        ("scans and damaged scans", scans),
+        ("drawn scans written", scans_written),
+        ("files and damaged files", files),
     ];
     let section = |(place, (name, draw)): (usize, (&'static str, Draw<C>))| -> Section<'a, C> {
         let all = move |cases: &mut C| {
@@ -129,6 +132,32 @@ fn texts_of_numbers(cases: &mut impl Cases, random: &mut Random) {
     let text = generate::text_of_numbers(random);
     cases.read_text(&text);
     cases.read_text(&damage::text(random, &text));
+}
+
+fn scans(cases: &mut impl Cases, random: &mut Random) {
+    let mut bytes = oracle::file(&[generate::scan(random)]);
+    let damaged = damage::scans(random, &bytes);
+    cases.read_scan(&damaged);
+    cases.read_scan(&damage::scans(random, &damaged));
+    bytes.extend((0..random.below(4)).map(|_| random.bits() as u8));
+    cases.read_scan(&bytes);
+}
+
+fn scans_written(cases: &mut impl Cases, random: &mut Random) {
+    let scan = generate::scan(random);
+    cases.write_scan(scan);
+    cases.write_scan(Scan { pair: generate::changed_pair(random, scan.pair), ..scan });
+}
+
+/// A file of up to 20 scans: whole, cut anywhere, damaged once and twice.
+fn files(cases: &mut impl Cases, random: &mut Random) {
+    let scans: Vec<Scan> = (0..random.below(21)).map(|_| generate::scan(random)).collect();
+    let file = oracle::file(&scans);
+    cases.file(&file);
+    cases.file(&file[..random.below(file.len() as u64 + 1) as usize]);
+    let damaged = damage::scans(random, &file);
+    cases.file(&damaged);
+    cases.file(&damage::scans(random, &damaged));
 }
 
 /// A pair of the year 1 or 9999, or of its neighbour; most of their offsets leave the years' range.

@@ -1,11 +1,13 @@
 //! The cases, and what may be done with them. They come in sections, edges first: those that go through all of
 //! something short, then those drawn at random.
 
+mod changes;
 mod drawn;
 mod exhaustive;
+mod scans;
 mod texts;
 
-use crate::calls::{Build, DateTime, Pair};
+use crate::calls::{Build, DateTime, Pair, Scan};
 
 #[derive(Clone, Copy)]
 pub struct Options {
@@ -24,6 +26,9 @@ pub trait Cases {
     fn two(&mut self, first: Pair, second: Pair);
     fn read(&mut self, input: &[u8]);
     fn read_text(&mut self, input: &[u8]);
+    fn read_scan(&mut self, input: &[u8]);
+    fn write_scan(&mut self, scan: Scan);
+    fn file(&mut self, file: &[u8]);
     fn var_uint(&mut self, value: u64);
     fn var_int(&mut self, value: i64);
     fn zero_padded(&mut self, value: u64, width: usize);
@@ -47,5 +52,9 @@ pub fn sections<'a, C: Cases + 'a>(options: Options) -> Vec<Section<'a, C>> {
         sections.extend(texts::sections());
     }
     sections.extend(drawn::sections(options));
+    // Last, so that what is recorded of the others does not change.
+    if !options.drawn_only {
+        sections.extend(scans::sections());
+    }
     sections
 }

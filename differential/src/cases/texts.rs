@@ -1,5 +1,6 @@
 //! Sections of texts to read that go through all of something short, or through all edges.
 
+use super::changes::{all_ends, all_short, one_changed, two_changed};
 use super::{Cases, Section};
 
 pub fn sections<'a, C: Cases + 'a>() -> Vec<Section<'a, C>> {
@@ -94,56 +95,18 @@ fn every_number(cases: &mut impl Cases) {
 /// Every text of up to two bytes, every text of up to eleven that are 0, 1, - or T, and after an hour and a minute every
 /// end of up to nine bytes that are 0, :, ., - or Z.
 fn short_texts(cases: &mut impl Cases) {
-    let bytes: Vec<u8> = (0..=255).collect();
-    all_ends(cases, &mut Vec::new(), &bytes, 2);
-    all_ends(cases, &mut Vec::new(), b"01-T", 11);
-    all_ends(cases, &mut b"2020-02-03T04:05".to_vec(), b"0:.-Z", 9);
+    let mut case = |text: &[u8]| cases.read_text(text);
+    all_short(2, &mut case);
+    all_ends(&mut Vec::new(), b"01-T", 11, &mut case);
+    all_ends(&mut b"2020-02-03T04:05".to_vec(), b"0:.-Z", 9, &mut case);
 }
 
-/// The text, and with every end of up to that many of the bytes.
-fn all_ends(cases: &mut impl Cases, text: &mut Vec<u8>, bytes: &[u8], most: usize) {
-    cases.read_text(text);
-    if most > 0 {
-        for byte in bytes {
-            text.push(*byte);
-            all_ends(cases, text, bytes, most - 1);
-            text.pop();
-        }
-    }
-}
-
-/// Of each of some hundreds of texts: every beginning and every end, every byte in every place and after the last, each
-/// byte left out, each twice. Of one text: every two bytes in every two neighbouring places.
+/// Some hundreds of texts with one byte changed, and one with two.
 fn changed_texts(cases: &mut impl Cases) {
     for text in some_texts() {
-        let text = text.into_bytes();
-        for place in 0..text.len() {
-            let (before, after) = text.split_at(place);
-            cases.read_text(before);
-            cases.read_text(after);
-            cases.read_text(&[before, &after[1..]].concat());
-            cases.read_text(&[before, &after[..1], after].concat());
-            every_byte(cases, &text, place);
-        }
-        every_byte(cases, &[&text[..], b"0"].concat(), text.len());
+        one_changed(text.as_bytes(), &mut |text| cases.read_text(text));
     }
-    let mut text = b"2020-02-03T04:05:06.7-08:09".to_vec();
-    for place in 1..text.len() {
-        let good = text[place - 1];
-        for byte in 0..=255 {
-            text[place - 1] = byte;
-            every_byte(cases, &text, place);
-        }
-        text[place - 1] = good;
-    }
-}
-
-fn every_byte(cases: &mut impl Cases, text: &[u8], place: usize) {
-    let mut text = text.to_vec();
-    for byte in 0..=255 {
-        text[place] = byte;
-        cases.read_text(&text);
-    }
+    two_changed(b"2020-02-03T04:05:06.7-08:09", &mut |text| cases.read_text(text));
 }
 
 /// Texts of every form and precision, most of them accepted.

@@ -6,6 +6,7 @@ use crate::cases::Cases;
 use crate::examples::{Example, Order, EXAMPLES, ORDERS, UNREAD};
 use crate::oracle::{self, Answer};
 use crate::readings::{Reading, READINGS};
+use crate::scan_readings::{FILES, SCANS};
 
 pub fn all<L: Library>(run: &mut Run<'_, L>) {
     for example in &EXAMPLES {
@@ -23,6 +24,7 @@ pub fn all<L: Library>(run: &mut Run<'_, L>) {
     for reading in &READINGS {
         reads(run, reading);
     }
+    scans(run);
     first_pair(run);
 }
 
@@ -51,6 +53,23 @@ fn reads<L: Library>(run: &mut Run<'_, L>, reading: &Reading) {
     let expected = reading.answer(|build| run.library.build(build).pair);
     let answer = run.library.read_text(text);
     run.judge("read text", || format!("{}: {}", reading.source.name(), reading.text), Ok(expected), answer);
+}
+
+fn scans<L: Library>(run: &mut Run<'_, L>) {
+    for reading in &SCANS {
+        run.read_scan(reading.bytes);
+        let expected = reading.answer(|build| run.library.build(build).pair);
+        let answer = run.library.read_scan(reading.bytes);
+        run.judge("read_scan", || format!("{:02x?}", reading.bytes), Ok(expected), answer);
+        if reading.owed.is_ok() {
+            run.write_scan(expected.scan);
+        }
+    }
+    for reading in &FILES {
+        run.file(reading.bytes);
+        let answer = run.library.check_file(reading.bytes);
+        run.judge("check_file", || format!("{:02x?}", reading.bytes), Ok(reading.owed), answer);
+    }
 }
 
 fn answer(bytes: &[u8]) -> Answer<Vec<u8>> {

@@ -10,7 +10,7 @@ use crate::refusals::SHORT_BUFFER;
 use std::fmt::Debug;
 
 /// What stands in a lent buffer before a call: one in buffers of even length, the other in those of odd.
-const FILLS: [u8; 2] = [0xA5, 0x5A];
+pub(super) const FILLS: [u8; 2] = [0xA5, 0x5A];
 
 impl<L: Library> Run<'_, L> {
     pub fn judge<T: PartialEq + Debug>(
@@ -64,7 +64,7 @@ impl<L: Library> Run<'_, L> {
                 return;
             };
             self.count(Counted::Write, answer.number);
-            let expected = expected.clone().map(|bytes| left_in(room, fill, bytes));
+            let expected = expected.clone().map(|bytes| left_in(room, 0, fill, &bytes));
             let case = || format!("{} into {room} bytes", case());
             self.judge(call, case, expected, (answer, buffer));
         }
@@ -177,6 +177,18 @@ impl<L: Library> Cases for Run<'_, L> {
         self.judge("read text", case, expected::read_text(input), answer);
     }
 
+    fn read_scan(&mut self, input: &[u8]) {
+        self.judge_scan(input);
+    }
+
+    fn write_scan(&mut self, scan: Scan) {
+        self.judge_written_scan(scan);
+    }
+
+    fn file(&mut self, file: &[u8]) {
+        self.judge_file(file);
+    }
+
     fn var_uint(&mut self, value: u64) {
         self.case();
         let case = || value.to_string();
@@ -212,17 +224,19 @@ impl<L: Library> Cases for Run<'_, L> {
     }
 }
 
-/// A writer's answer, and what it leaves in a buffer of that many bytes: the output and the old bytes past it, or
-/// the old bytes alone.
-fn left_in(room: usize, fill: u8, bytes: Result<Vec<u8>, u32>) -> (Written, Vec<u8>) {
-    let refused = |number| (Written { number, written: 0 }, vec![fill; room]);
-    match bytes {
-        Err(number) => refused(number),
-        Ok(bytes) if bytes.len() > room => refused(SHORT_BUFFER),
-        Ok(mut bytes) => {
-            let written = bytes.len();
-            bytes.resize(room, fill);
-            (Written { number: 0, written }, bytes)
-        }
-    }
+/// A writer's answer, and what it leaves in a buffer of that many bytes: the output from a place on, among the old
+/// bytes, or the old bytes alone.
+pub(super) fn left_in(room: usize, at: usize, fill: u8, bytes: &Result<Vec<u8>, u32>) -> (Written, Vec<u8>) {
+    let mut left = vec![fill; room];
+    let answer = match bytes {
+        Err(number) => Written { number: *number, written: 0 },
+        Ok(bytes) => match left.get_mut(at..).and_then(|rest| rest.get_mut(..bytes.len())) {
+            None => Written { number: SHORT_BUFFER, written: 0 },
+            Some(place) => {
+                place.copy_from_slice(bytes);
+                Written { number: 0, written: bytes.len() }
+            }
+        },
+    };
+    (answer, left)
 }

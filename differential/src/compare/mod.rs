@@ -2,6 +2,7 @@
 
 mod examples;
 mod judge;
+mod scans;
 
 use crate::calls::Library;
 use crate::cases::{self, Options};
@@ -18,12 +19,15 @@ enum Counted {
     Write,
     Read,
     ReadText,
+    ReadScan,
+    WriteScan,
+    File,
 }
 
-const COUNTED: [&str; 5] = ["build", "check", "writers", "read", "read text"];
+const COUNTED: [&str; 8] = ["build", "check", "writers", "read", "read text", "read scan", "write scan", "check file"];
 
 /// Numbers go from 0 to this.
-const LAST_NUMBER: usize = 18;
+const LAST_NUMBER: usize = 19;
 
 /// Failures of one run that are printed whole.
 const SHOWN: u64 = 20;

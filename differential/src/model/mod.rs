@@ -9,6 +9,7 @@ pub mod writing;
 use crate::calls::*;
 use crate::reader;
 use crate::refusals::SHORT_BUFFER;
+use crate::scans;
 use crate::text_reader;
 use fields::{number_and_pair, of_build, of_word, packed};
 use std::cmp::Ordering;
@@ -178,6 +179,23 @@ impl Library for Model {
 
     fn read_text(&self, input: &[u8]) -> Built {
         text_reader::fields_of(input).map_or_else(|refused| refused, |build| self.build(&build))
+    }
+
+    fn read_scan(&self, input: &[u8]) -> ScanRead {
+        scans::read(input, |value| self.read(value))
+    }
+
+    fn write_scan(&self, scan: Scan, buffer: &mut [u8], at: usize) -> Written {
+        let bytes = on_one(scan.pair, |fields| {
+            let numbers = [scan.tag, scan.guard].map(|number| writing::var_uint(number as u64));
+            [numbers.concat(), writing::value(&utc_and(fields))].concat()
+        });
+        // Past the end there is no room for any scan.
+        put_or_refuse(bytes, buffer.get_mut(at..).unwrap_or_default())
+    }
+
+    fn check_file(&self, file: &[u8]) -> FileRead {
+        scans::contents(file, |input| self.read_scan(input)).checked()
     }
 
     fn write_var_uint(&self, value: u64, buffer: &mut [u8]) -> Option<Written> {

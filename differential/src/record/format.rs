@@ -4,7 +4,8 @@
 //! these bytes: fields of a fixed width, big-endian, and in some kinds last a run of bytes after its length (1 byte).
 //! Whoever reads two bytes and then as many as the second says needs no look-ahead, and has every field at a fixed
 //! place. `n2` below is a field of two bytes; signed numbers are in two's complement; a pair is the word and the
-//! attoseconds, `n8 n8`; a number is a refusal's, 0 for accepted; an order or a sign is 00, 01 or FF for -1.
+//! attoseconds, `n8 n8`; a scan is its tag, its guard and its pair, `n4 n4 n8 n8`; a number is a refusal's, 0 for
+//! accepted; an order or a sign is 00, 01 or FF for -1.
 //!
 //! | kind | what | arguments | answer |
 //! |---|---|---|---|
@@ -21,7 +22,10 @@
 //! | 0A | VarInt | value n8, signed | bytes |
 //! | 0B | padded digits | value n8, width n1 | bytes |
 //! | 0C | text read | bytes, last | number n1, pair |
-//! | FF | end | | how many records of the kinds 01 to 0C there were n4 |
+//! | 0D | scan read | bytes, last | number n1, scan, taken n1 |
+//! | 0E | scan written | scan | number n1, bytes |
+//! | 0F | file checked | bytes, last | number n1, how many scans n1 |
+//! | FF | end | | how many records of the kinds 01 to 0F there were n4 |
 //!
 //! A field set is its stage n1, how month, day and hour are given n1, the year, month, day, hour, minute and second n4
 //! each, the fraction's kind n1 and two numbers n8 n8, the offset's kind n1 and its minutes n4. codes.rs has the codes.
@@ -45,6 +49,9 @@ pub enum Record {
     VarInt(i64, Vec<u8>),
     ZeroPadded(u64, u8, Vec<u8>),
     ReadText(Vec<u8>, Built),
+    ReadScan(Vec<u8>, ScanRead),
+    WriteScan(Scan, u32, Vec<u8>),
+    File(Vec<u8>, FileRead),
     End(u32),
 }
 
@@ -65,7 +72,15 @@ impl Record {
 
     /// Whether ion-rust itself has the call.
     pub fn is_the_rusts(&self) -> bool {
-        !matches!(self, Record::Read(..) | Record::Distance(..) | Record::ReadText(..))
+        !matches!(
+            self,
+            Record::Read(..)
+                | Record::Distance(..)
+                | Record::ReadText(..)
+                | Record::ReadScan(..)
+                | Record::WriteScan(..)
+                | Record::File(..)
+        )
     }
 
     fn kind(&self) -> u8 {
@@ -83,6 +98,9 @@ impl Record {
             Record::VarInt(..) => 0x0A,
             Record::ZeroPadded(..) => 0x0B,
             Record::ReadText(..) => 0x0C,
+            Record::ReadScan(..) => 0x0D,
+            Record::WriteScan(..) => 0x0E,
+            Record::File(..) => 0x0F,
             Record::End(_) => 0xFF,
         }
     }
@@ -115,6 +133,14 @@ impl Record {
             Record::ReadText(input, answer) => {
                 rest.built(answer);
                 rest.bytes(input);
+            }
+            Record::ReadScan(input, answer) => {
+                rest.byte(answer.number as u8).scan(answer.scan);
+                rest.byte(answer.taken as u8).bytes(input);
+            }
+            Record::WriteScan(scan, number, bytes) => rest.scan(*scan).byte(*number as u8).bytes(bytes),
+            Record::File(file, answer) => {
+                rest.byte(answer.number as u8).byte(answer.scans as u8).bytes(file);
             }
             Record::End(count) => rest.0.extend(count.to_be_bytes()),
         }
@@ -150,6 +176,16 @@ impl Record {
                 let answer = fields.built()?;
                 Record::ReadText(fields.bytes()?, answer)
             }
+            0x0D => {
+                let number = fields.byte()? as u32;
+                let answer = ScanRead { number, scan: fields.scan()?, taken: fields.byte()? as usize };
+                Record::ReadScan(fields.bytes()?, answer)
+            }
+            0x0E => Record::WriteScan(fields.scan()?, fields.byte()? as u32, fields.bytes()?),
+            0x0F => {
+                let answer = FileRead { number: fields.byte()? as u32, scans: fields.byte()? as usize };
+                Record::File(fields.bytes()?, answer)
+            }
             0xFF => Record::End(fields.half()?),
             _ => return None,
         };
@@ -178,6 +214,10 @@ impl Rest {
 
     fn pair(&mut self, pair: Pair) -> &mut Self {
         self.word(pair.word).word(pair.attoseconds)
+    }
+
+    fn scan(&mut self, scan: Scan) -> &mut Self {
+        self.half(scan.tag).half(scan.guard).pair(scan.pair)
     }
 
     fn built(&mut self, built: &Built) {
@@ -229,6 +269,10 @@ impl Fields<'_> {
 
     fn pair(&mut self) -> Option<Pair> {
         Some(Pair { word: self.word()?, attoseconds: self.word()? })
+    }
+
+    fn scan(&mut self) -> Option<Scan> {
+        Some(Scan { tag: self.half()?, guard: self.half()?, pair: self.pair()? })
     }
 
     fn built(&mut self) -> Option<Built> {

@@ -53,6 +53,11 @@ fn agrees<L: Library>(library: &L, record: &Record) -> bool {
             writes(0, bytes, |buffer| library.write_zero_padded(*value, *width as usize, buffer))
         }
         Record::ReadText(input, answer) => library.read_text(input) == *answer,
+        Record::ReadScan(input, answer) => library.read_scan(input) == *answer,
+        Record::WriteScan(scan, number, bytes) => {
+            writes(*number, bytes, |buffer| Some(library.write_scan(*scan, buffer, 0)))
+        }
+        Record::File(file, answer) => library.check_file(file) == *answer,
         Record::Source(_) | Record::End(_) => false,
     }
 }

@@ -9,6 +9,7 @@ use crate::expected::{self, Expected};
 use crate::oracle::{self, Answer};
 use crate::random::Random;
 use crate::readings::READINGS;
+use crate::scan_readings::{FILES, SCANS};
 use std::collections::BTreeMap;
 
 /// The longest run of bytes that is recorded.
@@ -38,6 +39,9 @@ enum Kind {
     VarInt,
     ZeroPadded,
     ReadText,
+    ReadScan,
+    WriteScan,
+    File,
 }
 
 /// How many cases there were, and the records of those that are kept, with the cases' places.
@@ -69,7 +73,9 @@ impl Sample {
         let kept = self.kept.entry((kind, number)).or_default();
         self.place += 1;
         kept.seen += 1;
-        let enough = if number == 0 { ACCEPTED * self.of_each } else { self.of_each };
+        // Of scans, half as many: what they are made of is recorded alone too.
+        let of_each = if kind >= Kind::ReadScan { self.of_each.div_ceil(2) } else { self.of_each };
+        let enough = if number == 0 { ACCEPTED * of_each } else { of_each };
         if kept.cases.len() < enough {
             kept.cases.push((self.place, records()));
             return;
@@ -115,6 +121,23 @@ impl Cases for Sample {
         if input.len() <= LONGEST {
             let built = answered(expected::read_text(input));
             self.offer(Kind::ReadText, built.number, || vec![Record::ReadText(input.to_vec(), built)]);
+        }
+    }
+
+    fn read_scan(&mut self, input: &[u8]) {
+        let read = expected::read_scan(input);
+        self.offer(Kind::ReadScan, read.number, || vec![Record::ReadScan(input.to_vec(), read)]);
+    }
+
+    fn write_scan(&mut self, scan: Scan) {
+        let (number, bytes) = written(oracle::scan(scan));
+        self.offer(Kind::WriteScan, number, || vec![Record::WriteScan(scan, number, bytes)]);
+    }
+
+    fn file(&mut self, file: &[u8]) {
+        if file.len() <= LONGEST {
+            let read = expected::contents(file).checked();
+            self.offer(Kind::File, read.number, || vec![Record::File(file.to_vec(), read)]);
         }
     }
 
@@ -206,6 +229,22 @@ pub fn examples(source: Source) -> Vec<Record> {
     for reading in READINGS.iter().filter(|reading| reading.source == source) {
         records.push(Record::ReadText(reading.text.as_bytes().to_vec(), reading.answer(pair_of)));
     }
+    if source == Source::Scans {
+        records.extend(scans());
+    }
+    records
+}
+
+fn scans() -> Vec<Record> {
+    let mut records = Vec::new();
+    for reading in &SCANS {
+        let read = reading.answer(pair_of);
+        records.push(Record::ReadScan(reading.bytes.to_vec(), read));
+        if read.number == 0 {
+            records.push(Record::WriteScan(read.scan, 0, reading.bytes[..read.taken].to_vec()));
+        }
+    }
+    records.extend(FILES.iter().map(|reading| Record::File(reading.bytes.to_vec(), reading.owed)));
     records
 }
 

@@ -15,6 +15,7 @@ use crate::oracle::{self, Answer};
 use crate::plain_reader;
 use crate::random::Random;
 use crate::record::{self, format::Record, replay};
+use crate::timing;
 
 const SHORT: Options = Options { seed: 7, draws: 2_000, drawn_only: true };
 
@@ -74,6 +75,17 @@ fn the_reader_that_is_timed_reads_as_the_one_that_is_compared() {
 }
 
 #[test]
+fn the_writer_of_scans_that_is_timed_writes_as_the_rust_does() {
+    let mut random = Random::new(SHORT.seed);
+    for _ in 0..50_000 {
+        let scan = generate::scan(&mut random);
+        let mut buffer = [0; 64];
+        let written = timing::scans::write_scan(&scan, &timing::stamp(scan.pair), &mut buffer);
+        assert_eq!(buffer[..written], oracle::file(&[scan]));
+    }
+}
+
+#[test]
 fn recorded_answers_come_back_and_are_replayed() {
     let records = record::records(SHORT, 3);
     let bytes = record::encoded(&records);
@@ -86,7 +98,7 @@ fn recorded_answers_come_back_and_are_replayed() {
     assert!(rest.is_empty());
 
     let tallies = replay::replay(&Model, &bytes).expect("a whole file");
-    assert_eq!(tallies.len(), 8);
+    assert_eq!(tallies.len(), 9);
     assert!(tallies.iter().all(|tally| tally.records > 0 && tally.agreed == tally.records));
 
     assert!(replay::replay(&Model, &bytes[..bytes.len() - 1]).is_err());

@@ -4,6 +4,7 @@ use super::SHORT;
 use crate::calls::*;
 use crate::compare;
 use crate::model::Model;
+use crate::scans;
 
 #[derive(Clone, Copy, PartialEq, Eq, Debug)]
 enum Fault {
@@ -45,9 +46,33 @@ enum Fault {
     ReadsUnknownAsZero,
     /// One for which more than 18 digits break the form.
     FewDigitsOnly,
+    /// A reader of scans that takes padded numbers.
+    TakesPadding,
+    /// One that finds a number too large before its end mark.
+    LargeBeforeItsMark,
+    /// One that wants a sixth byte to refuse five without a mark.
+    WantsSixBytes,
+    /// One that looks at the value before the guard.
+    ValueFirst,
+    /// One whose refusals keep the tag.
+    KeepsTheTag,
+    /// A reader of scans that tells how many bytes the value took.
+    TakenOfTheValue,
+    /// A writer of scans with the guard first.
+    GuardFirst,
+    /// One that looks for room before it checks.
+    ScanRoomFirst,
+    /// One that always writes from the buffer's beginning.
+    ForgetsThePlace,
+    /// A reader of files that keeps the scans before the damage.
+    KeepsScans,
+    /// One for which a file has a scan at least.
+    NoEmptyFile,
+    /// One that stops at the damage without telling it.
+    LeavesTheDamage,
 }
 
-const ALL: [Fault; 25] = [
+const ALL: [Fault; 37] = [
     Fault::ReadsNothing,
     Fault::TakesMore,
     Fault::DropsTheSecond,
@@ -73,6 +98,18 @@ const ALL: [Fault; 25] = [
     Fault::ReadsABeginning,
     Fault::ReadsUnknownAsZero,
     Fault::FewDigitsOnly,
+    Fault::TakesPadding,
+    Fault::LargeBeforeItsMark,
+    Fault::WantsSixBytes,
+    Fault::ValueFirst,
+    Fault::KeepsTheTag,
+    Fault::TakenOfTheValue,
+    Fault::GuardFirst,
+    Fault::ScanRoomFirst,
+    Fault::ForgetsThePlace,
+    Fault::KeepsScans,
+    Fault::NoEmptyFile,
+    Fault::LeavesTheDamage,
 ];
 
 struct Wrong(Fault);
@@ -209,6 +246,50 @@ impl Library for Wrong {
                 Model.read_text(&[before, b"Z"].concat())
             }
             (Fault::FewDigitsOnly, _) if read.number == 8 => Built { number: 18, ..read },
+            _ => read,
+        }
+    }
+
+    fn read_scan(&self, input: &[u8]) -> ScanRead {
+        let read = Model.read_scan(input);
+        let refused = |number| ScanRead { number, ..ScanRead::default() };
+        match (self.0, input) {
+            (Fault::TakesPadding, [0x00, rest @ ..]) if read.number == 19 => {
+                let read = Model.read_scan(rest);
+                ScanRead { taken: read.taken + (read.number == 0) as usize, ..read }
+            }
+            (Fault::LargeBeforeItsMark, [0x10..=0x7F, 0..=0x7F, 0..=0x7F, 0..=0x7F]) => refused(19),
+            (Fault::WantsSixBytes, [_, _, _, _, 0..=0x7F]) if read.number == 19 => refused(13),
+            (Fault::ValueFirst, [0x80, 0x00, _, rest @ ..]) if read.number == 19 => {
+                refused(Model.read(rest).number.max(13))
+            }
+            (Fault::KeepsTheTag, [tag @ 0x80..=0xFF, ..]) if read.number != 0 => {
+                ScanRead { scan: Scan { tag: *tag as u32 - 0x80, ..Scan::default() }, ..read }
+            }
+            (Fault::TakenOfTheValue, _) if read.number == 0 => {
+                let value = |rest: &[u8]| Model.read(rest).taken;
+                ScanRead { taken: (0..input.len()).map(|at| value(&input[at..])).max().unwrap_or(0), ..read }
+            }
+            _ => read,
+        }
+    }
+
+    fn write_scan(&self, scan: Scan, buffer: &mut [u8], at: usize) -> Written {
+        match self.0 {
+            Fault::GuardFirst => Model.write_scan(Scan { tag: scan.guard, guard: scan.tag, ..scan }, buffer, at),
+            Fault::ScanRoomFirst if buffer.len() < 5 => Written { number: 16, written: 0 },
+            Fault::ForgetsThePlace => Model.write_scan(scan, buffer, 0),
+            _ => Model.write_scan(scan, buffer, at),
+        }
+    }
+
+    fn check_file(&self, file: &[u8]) -> FileRead {
+        let read = Model.check_file(file);
+        let before = || scans::contents(file, |input| Model.read_scan(input)).scans.len();
+        match self.0 {
+            Fault::KeepsScans => FileRead { scans: before(), ..read },
+            Fault::NoEmptyFile if file.is_empty() => FileRead { number: 13, scans: 0 },
+            Fault::LeavesTheDamage => FileRead { number: 0, scans: before() },
             _ => read,
         }
     }

@@ -9,6 +9,8 @@
 //! inputs are passed over many times, so that they are in the cache. Writers write into one buffer of 64 bytes, which
 //! is never cleared: it holds what the call before wrote, and is in the cache.
 
+pub(crate) mod scans;
+
 use crate::binary::timestamp::TimestampBinaryEncoder;
 use crate::calls::{Build, Library, Pair};
 use crate::generate;
@@ -34,7 +36,7 @@ struct Inputs {
     texts: Vec<Vec<u8>>,
 }
 
-fn stamp(pair: Pair) -> Timestamp {
+pub(crate) fn stamp(pair: Pair) -> Timestamp {
     Timestamp::try_from_bits(pair.word, pair.attoseconds).expect("an accepted pair")
 }
 
@@ -68,19 +70,26 @@ fn inputs(seed: u64) -> Inputs {
     }
 }
 
-/// Runs a call on every input, many times over, and tells the seconds.
+/// Does some work, and tells the seconds.
 type Timed<'a> = Box<dyn FnMut() -> f64 + 'a>;
 
-fn timed<'a, T>(mut call: impl FnMut(usize) -> T + 'a) -> Option<Timed<'a>> {
+fn timed_once<'a>(mut work: impl FnMut() + 'a) -> Option<Timed<'a>> {
     Some(Box::new(move || {
         let start = Instant::now();
+        work();
+        start.elapsed().as_secs_f64()
+    }))
+}
+
+/// A call on every input, many times over.
+fn timed<'a, T>(mut call: impl FnMut(usize) -> T + 'a) -> Option<Timed<'a>> {
+    timed_once(move || {
         for _ in 0..PASSES {
             for place in 0..INPUTS {
                 black_box(call(black_box(place)));
             }
         }
-        start.elapsed().as_secs_f64()
-    }))
+    })
 }
 
 /// The same for a writer, with a buffer of its own.
@@ -116,11 +125,42 @@ fn write_value(stamp: &Timestamp, mut buffer: &mut [u8]) -> usize {
     buffer.encode_timestamp_value(stamp).expect("64 bytes are enough")
 }
 
+/// What stands above a row's times.
+const HEADS: &str = " Rust and check  Rust bare   library   ratio";
+
 /// A call on the Rust's side, with the check and bare, and on the library's.
 struct Row<'a> {
     name: &'static str,
     sides: [Option<Timed<'a>>; 3],
     best: [f64; 3],
+}
+
+impl<'a> Row<'a> {
+    fn new(name: &'static str, sides: [Option<Timed<'a>>; 3]) -> Row<'a> {
+        Row { name, sides, best: [f64::INFINITY; 3] }
+    }
+
+    /// Times each side once.
+    fn round(&mut self) {
+        for (side, best) in self.sides.iter_mut().zip(&mut self.best) {
+            if let Some(side) = side {
+                *best = best.min(side());
+            }
+        }
+    }
+
+    /// The best times in nanoseconds of each of so many calls, and the library's against the Rust's.
+    fn told(&self, calls: usize) -> String {
+        let [checked, bare, library] = self.best.map(|best| match best.is_finite() {
+            true => format!("{:.1}", best * 1e9 / calls as f64),
+            false => "-".to_string(),
+        });
+        let ratio = match self.best[0].is_finite() {
+            true => format!("{:.2}", self.best[2] / self.best[0]),
+            false => "-".to_string(),
+        };
+        format!("{checked:>15} {bare:>10} {library:>9} {ratio:>7}")
+    }
 }
 
 /// Prints the Rust's times and a library's. Every call is timed once in each round, so that a slow spell of the machine
@@ -129,36 +169,22 @@ pub fn run<L: Library>(library: &L, seed: u64) {
     let inputs = inputs(seed);
     let mut rows = rows(library, &inputs);
     for _ in 0..ROUNDS {
-        for row in &mut rows {
-            for (side, best) in row.sides.iter_mut().zip(&mut row.best) {
-                if let Some(side) = side {
-                    *best = best.min(side());
-                }
-            }
-        }
+        rows.iter_mut().for_each(Row::round);
     }
     println!("ns a call, best of {ROUNDS} rounds of {} calls; seed {seed}", PASSES * INPUTS);
-    println!("{:<14} {:>15} {:>10} {:>9} {:>7}", "call", "Rust and check", "Rust bare", "library", "ratio");
+    println!("{:<14} {HEADS}", "call");
     for row in rows {
-        let [checked, bare, library] = row.best.map(|best| match best.is_finite() {
-            true => format!("{:.1}", best * 1e9 / (PASSES * INPUTS) as f64),
-            false => "-".to_string(),
-        });
-        let ratio = match row.best[0].is_finite() {
-            true => format!("{:.2}", row.best[2] / row.best[0]),
-            false => "-".to_string(),
-        };
-        println!("{:<14} {checked:>15} {bare:>10} {library:>9} {ratio:>7}", row.name);
+        println!("{:<14} {}", row.name, row.told(PASSES * INPUTS));
     }
+    scans::run(library, seed);
 }
 
 fn rows<'a, L: Library>(library: &'a L, inputs: &'a Inputs) -> Vec<Row<'a>> {
     let (builds, pairs, near) = (&inputs.builds, &inputs.pairs, &inputs.near);
     let (stamps, near_stamps, values, texts) = (&inputs.stamps, &inputs.near_stamps, &inputs.values, &inputs.texts);
-    let row = |name, sides| Row { name, sides, best: [f64::INFINITY; 3] };
     vec![
         // The builder's checks are the call itself.
-        row(
+        Row::new(
             "build",
             [
                 timed(|at| oracle::build_stamp(&builds[at]).map(|stamp| stamp.to_bits())),
@@ -166,8 +192,8 @@ fn rows<'a, L: Library>(library: &'a L, inputs: &'a Inputs) -> Vec<Row<'a>> {
                 timed(|at| library.build(&builds[at])),
             ],
         ),
-        row("check", [timed(|at| stamp(pairs[at]).to_bits()), None, timed(|at| library.check(pairs[at]))]),
-        row(
+        Row::new("check", [timed(|at| stamp(pairs[at]).to_bits()), None, timed(|at| library.check(pairs[at]))]),
+        Row::new(
             "cmp",
             [
                 timed(|at| stamp(pairs[at]).cmp(&stamp(near[at]))),
@@ -175,7 +201,7 @@ fn rows<'a, L: Library>(library: &'a L, inputs: &'a Inputs) -> Vec<Row<'a>> {
                 timed(|at| library.cmp(pairs[at], near[at])),
             ],
         ),
-        row(
+        Row::new(
             "==",
             [
                 timed(|at| stamp(pairs[at]) == stamp(near[at])),
@@ -183,8 +209,8 @@ fn rows<'a, L: Library>(library: &'a L, inputs: &'a Inputs) -> Vec<Row<'a>> {
                 timed(|at| library.eq(pairs[at], near[at])),
             ],
         ),
-        row("distance", [None, None, timed(|at| library.distance(pairs[at], near[at]))]),
-        row(
+        Row::new("distance", [None, None, timed(|at| library.distance(pairs[at], near[at]))]),
+        Row::new(
             "to_utc",
             [
                 timed(|at| stamp(pairs[at]).to_utc().to_bits()),
@@ -192,7 +218,7 @@ fn rows<'a, L: Library>(library: &'a L, inputs: &'a Inputs) -> Vec<Row<'a>> {
                 timed(|at| library.to_utc(pairs[at])),
             ],
         ),
-        row(
+        Row::new(
             "text",
             [
                 writing(|at, buffer| write_text(&stamp(pairs[at]), buffer)),
@@ -200,7 +226,7 @@ fn rows<'a, L: Library>(library: &'a L, inputs: &'a Inputs) -> Vec<Row<'a>> {
                 writing(|at, buffer| library.text(pairs[at], buffer)),
             ],
         ),
-        row(
+        Row::new(
             "value",
             [
                 writing(|at, buffer| write_value(&stamp(pairs[at]), buffer)),
@@ -208,9 +234,9 @@ fn rows<'a, L: Library>(library: &'a L, inputs: &'a Inputs) -> Vec<Row<'a>> {
                 writing(|at, buffer| library.value(pairs[at], buffer)),
             ],
         ),
-        row("read", [None, None, timed(|at| library.read(&values[at]))]),
+        Row::new("read", [None, None, timed(|at| library.read(&values[at]))]),
         // The Rust's side is a reader written by hand over its builder, whose checks are the call's.
-        row(
+        Row::new(
             "read text",
             [
                 timed(|at| plain_reader::read(&texts[at]).map(|stamp| stamp.to_bits())),
