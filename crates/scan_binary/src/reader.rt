@@ -7,7 +7,6 @@ use scans::NumberRead;
 use scans::Scan;
 use scans::ScanRead;
 ghost use mathlib.Core.Path.{_≡_};
-ghost use lib.ListN.{drop};
 ghost use Rattle.scans.specs.Number.{refusedNumber, readNumber};
 ghost use Rattle.scans.specs.Scan.{refusedScan, readScan};
 
@@ -24,11 +23,11 @@ fn refused_number(number: u32) -> NumberRead
     }
 }
 
-// Reads the tag or the guard at index `at`.
-fn read_number(s: &[u8], at: usize) -> NumberRead
-    ensures { λ r. ⌜ r ≡ readNumber (drop at (now (s .entry))) ⌝ }
+// Reads the tag or the guard with which `s` begins.
+fn read_number(s: &[u8]) -> NumberRead
+    ensures { λ r. ⌜ r ≡ readNumber (now (s .entry)) ⌝ }
 {
-    match var_uint::read_u64(s, at, MAX_NUMBER) {
+    match var_uint::read_u64(s, 0, MAX_NUMBER) {
         VarUIntRead::Value(v, n) => NumberRead {
             number: 0,
             value: v as u32,
@@ -60,15 +59,17 @@ fn refused(number: u32) -> ScanRead
 pub fn read_scan(s: &[u8]) -> ScanRead
     ensures { λ r. ⌜ r ≡ readScan (now (s .entry)) ⌝ }
 {
-    let tag = read_number(s, 0);
+    // The tag has a part of its own too: `s` handed on as it came would go through memory.
+    let tag = read_number(&s[0..]);
     if tag.number != 0 {
         return refused(tag.number);
     }
-    let guard = read_number(s, tag.taken);
+    let after_tag = tag.taken;
+    let guard = read_number(&s[after_tag..]);
     if guard.number != 0 {
         return refused(guard.number);
     }
-    let at = tag.taken + guard.taken;
+    let at = after_tag + guard.taken;
     let value = value_reader::read_value(&s[at..]);
     if value.number != 0 {
         return refused(value.number);

@@ -37,6 +37,10 @@ module _ (s : List ℕ) where
     pub tag-refused : (t .number ≡ 0 → ⊥) → refusedScan (t .number) ≡ readScan s
     tag-refused h = sym (simp (ne-eqb (t .number) 0 h)) ∙ tag-joined
 
+    -- it ends within the bytes
+    pub tag-within : t .number ≡ 0 → t .taken ≤ length s
+    tag-within i = within s tag i
+
     module _ (i : t .number ≡ 0) {g : NumberRead} (guard : g ≡ readNumber (drop (t .taken) s)) where
       guard-joined : joined t g (readValue (drop (t .taken + g .taken) s)) ≡ readScan s
       guard-joined = rw guard tag-joined
@@ -47,7 +51,7 @@ module _ (s : List ℕ) where
       -- both numbers end within the bytes
       pub numbers-within : g .number ≡ 0 → t .taken + g .taken ≤ length s
       numbers-within j =
-          omega (arith, within s tag i, within (drop (t .taken) s) guard j, length-drop (t .taken) s)
+          omega (arith, tag-within i, within (drop (t .taken) s) guard j, length-drop (t .taken) s)
 
       module _ (j : g .number ≡ 0) {v : Read} (value : v ≡ readValue (drop (t .taken + g .taken) s)) where
         value-joined : joined t g v ≡ readScan s

@@ -2,28 +2,21 @@
 use borrow.Author.Needs.{needs}
 use mathlib.Core.Path.{_≡_, sym, ap, _∙_}
 use native.Mathlib.Omega.{arith}
-use lib.ListN.{drop}
-use Rattle.places.proofs.Below.{below-drop}
 use Rattle.binary.proofs.VarUInts.{read-varuint-is}
 use Rattle.scans.specs.Number.{numberFrom, readNumber}
 use Rattle.scan_binary.proofs.reader.read_number.Statement.{statement}
 use Rattle.scan_binary.proofs.reader.read_number.Tie as tie
 
 -- the answer by what was found
-whole : (c : tie.After-read-u64) →
-    let a = c .before .before .args in
-    readNumber (drop (a .at) (a .s .now)) ≡ numberFrom (c .read-u64 .result)
+whole : (c : tie.After-read-u64) → readNumber (c .before .before .args .s .now) ≡ numberFrom (c .read-u64 .result)
 unfolding readNumber
 whole c = ap numberFrom (sym (c .read-u64 .ensures .0))
 
-cast-t7 : tie.Need-cast-t7
-cast-t7 c =
+cast-t6 : tie.Need-cast-t6
+cast-t6 c =
     let r = c .before .before .before in
-    let k = r .before in
-    let a = k .before .args in
     let e = sym (r .read-u64 .ensures .0) ∙ c .before .v .given .1 in
-    let b = below-drop 256 (a .at) (a .s .now) (λ i. k .shared-slice-known .given i .fits) in
-    omega (arith, read-varuint-is _ _ _ _ b e .0)
+    omega (arith, read-varuint-is _ _ _ _ (λ i. r .before .shared-slice-known .given i .fits) e .0)
 
 returns : tie.Need-returns
 returns c = sym (whole (c .before .before .before) ∙ ap numberFrom (c .before .v .given .1))
@@ -37,5 +30,5 @@ returns-3 c = c .refused-number2 .ensures ∙ sym (whole (c .before .before .bef
 pub read-number-spec : {M : Type 1} → statement M
 read-number-spec =
     tie.close
-    (tie.spec (λ c κs. search needs) (λ c. search needs) cast-t7 (λ c. search needs) (λ c κs. search needs) (λ c. search needs)
+    (tie.spec (λ c κs. search needs) (λ c. search needs) cast-t6 (λ c. search needs) (λ c κs. search needs) (λ c. search needs)
     (λ c κs. search needs) returns returns-2 returns-3)
