@@ -1,5 +1,5 @@
--- The seven-bit groups of a number, with the number of groups a variable: they are as many as asked for, they read back as the number, and
--- what a scan finds has its groups where the scan began. Assumes nothing.
+-- The seven-bit groups of a number, with the number of groups a variable: they are as many as asked for, they read back as the number,
+-- what a scan finds has its groups where the scan began, and what it has met where it finds nothing. Assumes nothing.
 use mathlib.Core.Path.{_≡_, refl, sym, ap, ap₂, _∙_}
 use mathlib.Core.Bool.{Bool, true, false, cond}
 use mathlib.Core.List.{List, [], _∷_, _++_}
@@ -7,15 +7,15 @@ use Prim.Native.Nat.{ℕ, zero, suc, _+_, _-_, _*_, _/_, _%_, _^_, _≤_, _<_}
 use native.Mathlib.Nat.{pow-zero, pow-suc, pow-succ', mod-eq-of-lt, div-div-eq-div-mul}
 use native.Mathlib.Numerals.{add-one}
 use native.Mathlib.Omega.{arith}
-use borrow.Author.Tests.{le-leb, lt-leb, ltb-false, leb-true, leb-false}
+use borrow.Author.Tests.{le-leb, lt-leb, ltb-true, ltb-false, leb-true, leb-false}
 use lib.Dec.{leb, ltb, lit<}
-use lib.ListN.{length, drop}
+use lib.ListN.{length, take, drop}
 use Rattle.places.specs.Places.{plain, placesOn, valueFrom}
 use Rattle.places.proofs.Laws.{places-append, places-add, value-on}
-use Rattle.places.proofs.Below.{Below}
+use Rattle.places.proofs.Below.{Below, below-none, below-cons}
 use Rattle.places.proofs.Values.{place-more}
 use Rattle.ion.specs.Numbers.VarUInt.{groups, upTo, scanFrom}
-use Rattle.ion.specs.declared.VarUIntRead.the-variants.{Value, Bad}
+use Rattle.ion.specs.declared.VarUIntRead.the-variants.{Value, Cut, Bad}
 
 -- ---- the groups are the places of base 128, of which the last is marked
 
@@ -69,6 +69,28 @@ scan-last l n v k b w r h e = rw (e, le-leb 128 b h)
 pub scan-full : (l n v k b : ℕ) (r : List ℕ) → n ≡ 0 → b < 128 → scanFrom l (suc n) v k (b ∷ r) ≡ Bad
 unfolding scanFrom
 scan-full l n v k b r e h = rw (e, lt-leb 128 b h)
+
+-- the input ends before a marked byte, and before the last that may be read
+pub scan-cut : (l n v k : ℕ) (s : List ℕ) → length s < n → Below 128 s → scanFrom l n v k s ≡ Cut
+unfolding scanFrom
+scan-cut l zero v k s h b = absurd (omega arith)
+scan-cut l (suc n) v k [] h b = refl
+scan-cut l (suc n) v k (c ∷ r) h b = rw (lt-leb 128 c (b 0)) (scan-cut l n (v * 128 + c % 128) (k + 1) r (omega arith) (λ i. b (suc i)))
+
+pub cut-scan : (l n v k : ℕ) (s : List ℕ) → scanFrom l n v k s ≡ Cut → (length s < n) × Below 128 s
+unfolding scanFrom
+cut-scan l zero v k s e = absurd (let z : _≡_ {A = ℕ} 0 1 = cc in omega arith)
+cut-scan l (suc n) v k [] e = (omega arith, below-none 128 (lit< tt))
+cut-scan l (suc n) v k (c ∷ r) e = go (cut-scan l n w (k + 1) r) (leb 128 c) (ltb l w) refl e
+  where
+    w : ℕ
+    w = v * 128 + c % 128
+
+    go : (scanFrom l n w (k + 1) r ≡ Cut → (length r < n) × Below 128 r) → (t u : Bool) → leb 128 c ≡ t
+        → cond t (cond u Bad (Value w (k + 1))) (scanFrom l n w (k + 1) r) ≡ Cut → (length (c ∷ r) < suc n) × Below 128 (c ∷ r)
+    go ih true true f e = absurd (let z : _≡_ {A = ℕ} 0 1 = cc in omega arith)
+    go ih true false f e = absurd (let z : _≡_ {A = ℕ} 0 1 = cc in omega arith)
+    go ih false u f e = let p = ih e in (omega (arith, p .0), below-cons 128 c r (leb-false 128 c f) (p .1))
 
 scan-on : (l n c q : ℕ) (t : List ℕ) → q < 128 ^ n → scanFrom l (n + c) 0 0 (placesOn 128 plain n q t) ≡ scanFrom l c q n t
 unfolding placesOn
@@ -154,3 +176,36 @@ scan-gives l (suc n) v k (c ∷ r) m j e = go (scan-gives l n w (k + 1) r m j) (
         let ej : k + 1 ≡ j = cc in
         rw (← em, ← ej) (scanned-last l v k c w r refl (leb-true 128 c f) (ltb-false l w g))
     go ih false u f g e = scanned-more l v k c w r m j refl (leb-false 128 c f) (ih e)
+
+-- ---- what a scan has met that finds nothing: n bytes without a mark, or a number above l at one
+
+pub data Missed (l n v k : ℕ) (s : List ℕ) : Type 0 where
+  unmarked : n ≤ length s → Below 128 (take n s) → Missed l n v k s
+  above : (m j : ℕ) → l < m → j ≤ k + n → Scanned m v k s m j → Missed l n v k s
+
+pub scan-unmarked : (l n v k : ℕ) (s : List ℕ) → n ≤ length s → Below 128 (take n s) → scanFrom l n v k s ≡ Bad
+unfolding scanFrom
+scan-unmarked l zero v k s h b = refl
+scan-unmarked l (suc n) v k [] h b = absurd (omega arith)
+scan-unmarked l (suc n) v k (c ∷ r) h b =
+    rw (lt-leb 128 c (b 0)) (scan-unmarked l n (v * 128 + c % 128) (k + 1) r (omega arith) (λ i. b (suc i)))
+
+pub scan-missed : (l n v k : ℕ) (s : List ℕ) → scanFrom l n v k s ≡ Bad → Missed l n v k s
+unfolding scanFrom
+scan-missed l zero v k s e = unmarked (omega arith) (below-none 128 (lit< tt))
+scan-missed l (suc n) v k [] e = absurd (let z : _≡_ {A = ℕ} 0 1 = cc in omega arith)
+scan-missed l (suc n) v k (c ∷ r) e = go (scan-missed l n w (k + 1) r) (leb 128 c) (ltb l w) refl refl e
+  where
+    w : ℕ
+    w = v * 128 + c % 128
+
+    more : c < 128 → Missed l n w (k + 1) r → Missed l (suc n) v k (c ∷ r)
+    more h (unmarked i b) = unmarked (omega arith) (below-cons 128 c (take n r) h b)
+    more h (above m j i x d) = above m j i (omega arith) (scanned-more m v k c w r m j refl h d)
+
+    go : (scanFrom l n w (k + 1) r ≡ Bad → Missed l n w (k + 1) r) → (t u : Bool) → leb 128 c ≡ t → ltb l w ≡ u
+        → cond t (cond u Bad (Value w (k + 1))) (scanFrom l n w (k + 1) r) ≡ Bad → Missed l (suc n) v k (c ∷ r)
+    go ih true true f g e =
+        above w (k + 1) (ltb-true l w g) (omega arith) (scanned-last w v k c w r refl (leb-true 128 c f) (omega arith))
+    go ih true false f g e = absurd (let z : _≡_ {A = ℕ} 0 1 = cc in omega arith)
+    go ih false u f g e = more (leb-false 128 c f) (ih e)

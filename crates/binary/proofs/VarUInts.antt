@@ -1,4 +1,5 @@
--- VarUInt: the shortest form is the shortest and is read back, and whatever is read is a shortest form. Assumes nothing.
+-- VarUInt: the shortest form is the shortest and is read back, and whatever is read is a shortest form; where the bytes are cut short, and
+-- where they are unreadable. Assumes nothing.
 use mathlib.Core.Path.{_≡_, refl, sym, ap, _∙_}
 use mathlib.Core.Bool.{Bool, true, false, cond}
 use mathlib.Core.List.{List, [], _∷_, _++_}
@@ -9,14 +10,15 @@ use native.Mathlib.Omega.{arith}
 use borrow.Author.Tests.{lt-ltb, le-ltb, ne-eqb, ltb-false}
 use lib.Count.{leadingZeros}
 use lib.Dec.{eqb, ltb, lit<}
-use lib.ListN.{length, drop, length-append}
+use lib.ListN.{length, take, drop, length-append}
 use Rattle.places.specs.Places.{placesOn}
 use Rattle.places.proofs.Laws.{held, fewest, place-some, place-monotone, place-is}
 use Rattle.places.proofs.Below.{Below}
 use Rattle.places.proofs.Bits.{zeros-places}
 use Rattle.ion.specs.Numbers.VarUInt.{groups, groupCount, varuint, scanFrom, zeroFirst, readVarUInt}
-use Rattle.ion.specs.declared.VarUIntRead.the-variants.{Value, Bad}
+use Rattle.ion.specs.declared.VarUIntRead.the-variants.{Value, Cut, Bad}
 use Rattle.binary.proofs.Groups.{groups-one, groups-more, length-groups, scan-groups, Scanned, scan-gives}
+use Rattle.binary.proofs.Groups.{scan-cut, cut-scan, Missed, unmarked, above, scan-unmarked, scan-missed}
 
 -- ---- how many groups a number has: its groups hold it, and no fewer do
 
@@ -90,6 +92,24 @@ pub read-scanned : (l : ℕ) (s : List ℕ) → zeroFirst s ≡ false → readVa
 unfolding readVarUInt
 read-scanned l s e = rw e
 
+-- ---- the bytes are cut short: no marked one, fewer than the limit has, and no 0 before another
+
+pub record CutShort (l : ℕ) (s : List ℕ) : Type 0 where
+  pub few : length s < groupCount l
+  pub unmarked : Below 128 s
+  pub unpadded : zeroFirst s ≡ false
+
+pub read-cut : (l : ℕ) (s : List ℕ) → CutShort l s → readVarUInt l s ≡ Cut
+read-cut l s c = read-scanned l s (c .unpadded) ∙ scan-cut l (groupCount l) 0 0 s (c .few) (c .unmarked)
+
+pub cut-read : (l : ℕ) (s : List ℕ) → readVarUInt l s ≡ Cut → CutShort l s
+unfolding readVarUInt
+cut-read l s e = go (zeroFirst s) refl e
+  where
+    go : (t : Bool) → zeroFirst s ≡ t → cond t Bad (scanFrom l (groupCount l) 0 0 s) ≡ Cut → CutShort l s
+    go true f e = absurd (let z : _≡_ {A = ℕ} 0 1 = cc in omega arith)
+    go false f e = let p = cut-scan l (groupCount l) 0 0 s e in record { few = p .0; unmarked = p .1; unpadded = f }
+
 -- ---- the shortest form is read back, whatever follows it
 
 pub read-varuint : (l m : ℕ) (r : List ℕ) → m ≤ l → readVarUInt l (varuint m ++ r) ≡ Value m (groupCount m)
@@ -123,6 +143,43 @@ read-varuint-is l s m j g e =
     let u : ltb (groupCount m) j ≡ false = sym (zero-first-padded j m (drop j s) (f .some) h) ∙ ap zeroFirst (sym b) ∙ o .0 in
     let n : j ≡ groupCount m = omega (arith, ltb-false (groupCount m) j u, fewest 128 (lit< tt) j m (f .some) h) in
     (f .limited, n, b ∙ ap (λ (k : ℕ). groups k m ++ drop j s) n)
+
+-- ---- no shortest form up to l begins the bytes, however they go on: a 0 before another, as many as l has without a mark, or a number
+-- above l at one
+
+pub data Unreadable (l : ℕ) (s : List ℕ) : Type 0 where
+  padded : zeroFirst s ≡ true → Unreadable l s
+  endless : groupCount l ≤ length s → Below 128 (take (groupCount l) s) → Unreadable l s
+  too-large : (m j : ℕ) (r : List ℕ) → l < m → 0 < j → j ≤ groupCount l → m < 128 ^ j → s ≡ groups j m ++ r → Unreadable l s
+
+pub read-bad : (l : ℕ) (s : List ℕ) → Unreadable l s → readVarUInt l s ≡ Bad
+unfolding readVarUInt
+read-bad l s u = from u
+  where
+    scanned : scanFrom l (groupCount l) 0 0 s ≡ Bad → (t : Bool) → cond t Bad (scanFrom l (groupCount l) 0 0 s) ≡ Bad
+    scanned e true = refl
+    scanned e false = e
+
+    from : Unreadable l s → cond (zeroFirst s) Bad (scanFrom l (groupCount l) 0 0 s) ≡ Bad
+    from (padded e) = rw e
+    from (endless h b) = scanned (scan-unmarked l (groupCount l) 0 0 s h b) (zeroFirst s)
+    from (too-large m j r h z i k e) =
+        let found : scanFrom l (groupCount l) 0 0 (groups j m ++ r) ≡ Bad = scan-groups l (groupCount l) j m r z i k ∙ rw (lt-ltb l m h) in
+        scanned (ap (scanFrom l (groupCount l) 0 0) e ∙ found) (zeroFirst s)
+
+pub bad-read : (l : ℕ) (s : List ℕ) → Below 256 s → readVarUInt l s ≡ Bad → Unreadable l s
+unfolding readVarUInt placesOn
+bad-read l s b e = go (zeroFirst s) refl e
+  where
+    from : Missed l (groupCount l) 0 0 s → Unreadable l s
+    from (unmarked h c) = endless h c
+    from (above m j h i f) =
+        let z : j - 0 ≡ j = omega arith in
+        too-large m j (drop j s) h (f .some) (omega arith) (f .held (lit< tt)) (rw z at (f .bytes b))
+
+    go : (t : Bool) → zeroFirst s ≡ t → cond t Bad (scanFrom l (groupCount l) 0 0 s) ≡ Bad → Unreadable l s
+    go true f e = padded f
+    go false f e = from (scan-missed l (groupCount l) 0 0 s e)
 
 -- what is read lies within the input
 pub read-within : (l : ℕ) (s : List ℕ) (m j : ℕ) → readVarUInt l s ≡ Value m j → (0 < j) × (j ≤ length s)

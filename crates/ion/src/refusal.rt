@@ -24,7 +24,7 @@ pub const NO_DAY: u32 = 10;
 pub const LOCAL_YEAR: u32 = 11;
 // Packed pair the builder never gives.
 pub const PAIR: u32 = 12;
-// Input ends inside a value.
+// Input ends inside a value, or inside a scan.
 pub const INPUT_ENDS: u32 = 13;
 // First byte not 60 to 6E hexadecimal.
 pub const FIRST_BYTE: u32 = 14;

@@ -11,6 +11,7 @@ use Rattle.ion.specs.Calls.Accepted.{Accepted}
 use Rattle.ion.specs.Value.Encode.{valueOf}
 use Rattle.ion.specs.Value.ReadValue.{readValue}
 use Rattle.contents.proofs.Readers.{Advances, ReadsAs, WrittenSo, Inverse}
+use Rattle.timestamp_binary.proofs.Lengths.{value-some, value-length}
 use Rattle.value_reader.proofs.Values.{value-back}
 use Rattle.value_reader.proofs.Readings.{read-is, value-within}
 use Rattle.scans.specs.Number.{largest, readNumber}
@@ -18,7 +19,7 @@ use Rattle.scans.specs.Scan.{scanBytes, acceptedScan, readScan}
 use Rattle.scans.specs.File.{scanReader}
 use Rattle.scans.specs.declared.Scan.{Scan}
 use Rattle.scans.specs.declared.ScanRead.{ScanRead}
-use Rattle.scan_laws.proofs.Numbers.{number-back, number-is, number-within}
+use Rattle.scan_laws.proofs.Numbers.{number-size, number-back, number-is, number-within}
 use Rattle.scan_laws.proofs.Reading.{accepted, tagIn, guardIn, valueIn, scan-accepted, in-parts}
 
 -- a scan that a file can hold
@@ -33,6 +34,15 @@ scan-length x =
     let g = varuint (x .guard) in
     let v = valueOf (x .stamp) in
     omega (arith, length-append (varuint (x .tag)) (g ++ v), length-append g v)
+
+-- a byte each of tag and guard and three of the value at least, five each and twenty at most
+pub scan-size : (x : Scan) → Stored x → (5 ≤ length (scanBytes x)) × (length (scanBytes x) ≤ 30)
+scan-size x p =
+    let n = scan-length x in
+    let s = x .stamp in (
+      omega (arith, n, number-size (x .tag) (p .tag) .0, number-size (x .guard) (p .guard) .0, value-some s),
+      omega (arith, n, number-size (x .tag) (p .tag) .1, number-size (x .guard) (p .guard) .1, value-length s (p .stamp)),
+    )
 
 -- ---- written and read
 

@@ -1,1 +1,2 @@
+-- The rows that hold the definitions to the scope.
 pub mod ScanExamples

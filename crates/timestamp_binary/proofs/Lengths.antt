@@ -95,6 +95,21 @@ body-length s p =
       fraction-length (u .digits) c (omega (arith, i .digits, v .digits)) below,
     )
 
+header-length : (n : ℕ) → n < 128 → length (header n) ≤ 2
+unfolding header
+header-length n h = go (leb n 13)
+  where
+    go : (t : Bool) → length (cond t ((0x60 + n) ∷ []) (0x6e ∷ varuint n)) ≤ 2
+    go true = omega arith
+    go false = omega (arith, length-varuint n, count-shortest 0 n (omega arith))
+
+pub value-length : (s : Timestamp) → Accepted s → length (valueOf s) ≤ 20
+unfolding valueOf
+value-length s p =
+    let b = bodyOf s in
+    let most = body-length s p in
+    omega (arith, length-append (header (length b)) b, header-length (length b) (omega (arith, most)), most)
+
 -- ---- the least: a byte each of a header, an offset and a year
 
 offset-some : (o : Offset) → 1 ≤ length (offsetBytes o)

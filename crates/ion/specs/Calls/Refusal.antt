@@ -49,7 +49,7 @@ localYearRefused = 11
 abbrev pub pairRefused : ℕ
 pairRefused = 12
 
--- input ends inside a value
+-- input ends inside a value, or inside a scan
 abbrev pub inputEnds : ℕ
 inputEnds = 13
 
