@@ -6,12 +6,12 @@ use mathlib.Core.List.{List, [], _∷_, _++_, map}
 use mathlib.Core.Path.{_≡_, refl}
 use lib.IntN.{ℤ, pos, negsuc}
 use Rattle.places.specs.Places.{placesOn, places, countIn, count, placeCount, valueFrom}
+use Rattle.places.specs.Padded.{paddedPlaces}
 use Rattle.ion.specs.Text.Ascii.{ascii}
 use Rattle.ion.specs.Numbers.VarUInt.{groups, varuint, scanFrom, readVarUInt}
 use Rattle.ion.specs.Numbers.VarInt.{signedCount, signed, varint, readVarInt}
 use Rattle.ion.specs.Numbers.Int.{intCount, int, readInt}
 use Rattle.ion.specs.Numbers.Decimal.{decimalBytes}
-use Rattle.ion.specs.Numbers.Padded.{padded}
 use Rattle.ion.specs.Calendar.Dates.{isLeap, monthLengthOf, sumBelow}
 use Rattle.ion.specs.Pair.Offset.{offsetMinutes}
 use Rattle.ion.specs.Pair.Word.{wordOf, fieldsOf}
@@ -187,7 +187,7 @@ table =
 pub examples : map (λ (r : Row). r .given) table ≡ map (λ (r : Row). r .stated) table
 unfolding table row date minute sixth at p1 p3 p4 p5 p6 p7 p8 p1Bytes p3Bytes p4Bytes p5Bytes p6Bytes p7Bytes p8Bytes stamp
     builtAnswer built refused text written readBack taken compared apart placesOn places countIn count placeCount valueFrom groups
-    varuint scanFrom readVarUInt signedCount signed varint readVarInt intCount int readInt decimalBytes padded isLeap
+    varuint scanFrom readVarUInt signedCount signed varint readVarInt intCount int readInt decimalBytes paddedPlaces isLeap
     monthLengthOf sumBelow wordOf fieldsOf capped buildOf buildNumber buildPair checkOf utcFields countOf cmpOf eqOf distanceOf
     marked fractionText clockText minutesText offsetText fieldsText textOf offsetBytes varuints fieldCount fractionBytes bodyFrom
     bodyOf header valueOf decodeOffset decodeFields decodeFraction filled precisionWith decodeBody pairFrom same isBodyOf readBody

@@ -1,5 +1,6 @@
 pub mod Answers
 pub mod Examples
 pub mod Offsets
+pub mod PaddedExamples
 pub mod Same
 pub mod TextExamples

@@ -1,4 +1,4 @@
--- Bytes put into a buffer, one run after another, and stores from the front and from the back. Assumes nothing.
+-- Bytes put into a buffer, one run after another or in front of it, and stores from the front and from the back. Assumes nothing.
 use mathlib.Core.Path.{_≡_, refl, sym, ap, ap₂, _∙_}
 use mathlib.Core.List.{List, [], _++_, append-assoc}
 use Prim.Native.Nat.{ℕ, _+_, _-_, _/_, _%_, _≤_, _<_}
@@ -7,7 +7,7 @@ use native.Mathlib.Omega.{arith}
 use native.Mathlib.Decide.{decLe}
 use borrow.Author.Tests.{le-leb, lt-leb, ne-eqb}
 use lib.ListN.{length, take, drop, set, getD, length-append, length-drop, length-set, take-append-drop}
-use lib.Seq.{take-at, drop-at, drop-drop, length-take-le, take-set-le, paste, paste-suc, take-length}
+use lib.Seq.{take-at, drop-at, drop-drop, length-take-le, take-set-le, paste, paste-suc, take-length, take-append-le, take-take}
 use Rattle.places.specs.Places.{placesOn, places}
 use Rattle.places.proofs.Laws.{places-append, length-places, place-stored}
 use Rattle.ion.specs.Calls.Output.{over, put, roomFor, wrote, putAfter, wroteAfter, refusedWriting, Run}
@@ -76,11 +76,17 @@ module _ (n : ℕ) (d : List ℕ) (at : ℕ) (s : List ℕ) where
   unfolding wroteAfter putAfter
   stopped-writing z = rw (ne-eqb n 0 z) (refl, refl)
 
+-- what stands in front of what was put
+take-before : (d : List ℕ) (at : ℕ) (s : List ℕ) (n : ℕ) → n ≤ at → at ≤ length d → take n (over d at s) ≡ take n d
+take-before d at s n l h =
+    take-append-le n (take at d) (s ++ drop (at + length s) d) (omega (arith, length-take-le at d h)) ∙ take-take n at d l
+
+pub drop-there : (d : List ℕ) (at : ℕ) (s : List ℕ) → at ≤ length d → drop at (over d at s) ≡ s ++ drop (at + length s) d
+drop-there d at s h = drop-at (take at d) (s ++ drop (at + length s) d) at (length-take-le at d h)
+
 -- the bytes that were put are those at the position
 pub put-there : (d : List ℕ) (at : ℕ) (s : List ℕ) → at + length s ≤ length d → take (length s) (drop at (over d at s)) ≡ s
-put-there d at s h =
-    let r = drop (at + length s) d in
-    ap (take (length s)) (drop-at (take at d) (s ++ r) at (length-take-le at d (omega arith))) ∙ take-at s r (length s) refl
+put-there d at s h = ap (take (length s)) (drop-there d at s (omega arith)) ∙ take-at s (drop (at + length s) d) (length s) refl
 
 -- what stands in front of the end of what was put, and behind it
 pub take-over : (d : List ℕ) (at : ℕ) (s : List ℕ) (n : ℕ) → length s ≡ n → at ≤ length d → take (at + n) (over d at s) ≡ take at d ++ s
@@ -108,6 +114,17 @@ over-over d at s t n e h =
     ∙ drop-drop (length t) (at + n) d)
     ∙ append-assoc (take at d) s (t ++ r)
     ∙ ap (λ (x : List ℕ). take at d ++ x) (sym (append-assoc s t r) ∙ ap (λ (j : ℕ). (s ++ t) ++ drop j d) k)
+
+-- one run of bytes in front of another that is there
+pub over-before : (d : List ℕ) (at : ℕ) (s t : List ℕ) (n : ℕ) → length s ≡ n → at + n + length t ≤ length d
+    → over (over d (at + n) t) at s ≡ over d at (s ++ t)
+over-before d at s t n e h =
+    let k : at + n + length t ≡ at + length (s ++ t) = omega (arith, length-append s t) in
+    let l : at + length s ≡ at + n = omega arith in
+    ap₂ (λ (x y : List ℕ). x ++ (s ++ y)) (take-before d (at + n) t at (omega arith) (omega arith))
+    (ap (λ (j : ℕ). drop j (over d (at + n) t)) l ∙ drop-there d (at + n) t (omega arith))
+    ∙ ap (λ (x : List ℕ). take at d ++ x)
+    (sym (append-assoc s t (drop (at + n + length t) d)) ∙ ap (λ (j : ℕ). (s ++ t) ++ drop j d) k)
 
 -- ---- a copy from the front: `paste` of lib.Seq is the first n of s in place
 

@@ -4,7 +4,7 @@ use mathlib.Core.List.{List, [], _∷_, _++_}
 use Prim.Native.Nat.{ℕ, zero, suc, _+_, _-_, _*_, _/_, _%_, _^_, _≤_, _<_}
 use native.Mathlib.Nat.{pow-zero, pow-suc, pow-succ', zero-add, add-zero, add-suc, one-le-pow, div-one, div-div-eq-div-mul}
 use native.Mathlib.Nat.{div-lt-iff-lt-mul, div-lt-self, div-add-mod', mod-lt, lt-of-lt-of-le, lt-of-le-of-lt, mul-comm, mul-le-mul-left}
-use native.Mathlib.Nat.{mul-suc, pow-le-pow-right}
+use native.Mathlib.Nat.{mul-suc, pow-le-pow-right, le-div-iff-mul-le}
 use native.Mathlib.Decide.{decLe}
 use native.Mathlib.Omega.{arith}
 use lib.Arith.{mod-mul, digits-div, digits-mod}
@@ -106,23 +106,6 @@ module _ (b : ℕ) (hb : 1 < b) where
           let r : q < b ^ n = lt-of-lt-of-le (count-holds q) (pow-le-pow-right pos k) in
           absurd (fewer n q r (rw (pow-succ' b n) at l))
 
-  -- what a loop over the places of v has counted: n, with those of q to come
-  pub record Counted (v n q : ℕ) : Type 0 where
-    pub sum : n + count b q ≡ placeCount b v
-
-  pub count-start : (v : ℕ) → Counted v 1 (v / b)
-  unfolding placeCount
-  count-start v = record { sum = omega arith }
-
-  pub count-turn : {v n q : ℕ} → Counted v n q → 0 < q → Counted v (n + 1) (q / b)
-  count-turn {v} {n} {q} c h = record { sum = omega (arith, c .sum, count-next q h) }
-
-  pub count-end : {v n q : ℕ} → Counted v n q → q ≤ 0 → n ≡ placeCount b v
-  count-end {v} {n} {q} c h = omega (arith, c .sum, count-zero, ap (count b) (let e : q ≡ 0 = omega arith in e))
-
-  pub counted-below : {v n q : ℕ} → Counted v n q → 0 < q → n < placeCount b v
-  counted-below {v} {n} {q} c h = omega (arith, c .sum, count-next q h)
-
   -- the same where 0 has one place
   pub held : (n : ℕ) → n < b ^ placeCount b n
   unfolding placeCount
@@ -136,6 +119,23 @@ module _ (b : ℕ) (hb : 1 < b) where
   pub place-some : (n : ℕ) → 0 < placeCount b n
   unfolding placeCount
   place-some n = omega arith
+
+  -- a number without its lowest place has one place fewer, until no number is left
+  pub place-next : (n : ℕ) → 0 < n / b → placeCount b n ≡ 1 + placeCount b (n / b)
+  unfolding placeCount
+  place-next n h = omega (arith, count-next (n / b) h)
+
+  pub place-last : (n : ℕ) → n / b ≡ 0 → placeCount b n ≡ 1
+  unfolding placeCount
+  place-last n e = ap suc (ap (count b) e ∙ count-zero)
+
+  -- a number without its k lowest places has k fewer
+  pub place-split : (k n : ℕ) → b ^ k ≤ n → placeCount b n ≡ k + placeCount b (n / b ^ k)
+  place-split zero n h = rw (pow-zero b, div-one) (sym (zero-add (placeCount b n)))
+  place-split (suc k) n h =
+      let e : n / b / b ^ k ≡ n / b ^ suc k = div-div-eq-div-mul n b (b ^ k) ∙ ap (λ (m : ℕ). n / m) (sym (pow-succ' b k)) in
+      let l : b ^ k ≤ n / b = le-div-iff-mul-le pos .1 (rw (pow-suc b k) at h) in
+      rw (← e) (omega (arith, place-next n (omega (arith, above k)), place-split k (n / b) l))
 
   pub place-monotone : (m n : ℕ) → m ≤ n → placeCount b m ≤ placeCount b n
   place-monotone m n h = fewest (placeCount b n) m (place-some n) (lt-of-le-of-lt h (held n))

@@ -12,6 +12,7 @@ use lib.IntN.{pos, negℤ}
 use lib.ListN.{length, drop, getD, drop-of-length-le}
 use borrow.Author.Tests.{ltb-false, eqb-true}
 use Rattle.places.specs.Places.{placesOn, places, countIn, count, placeCount}
+use Rattle.places.specs.Padded.{paddedPlaces}
 use Rattle.ion.specs.Text.Ascii.{ascii}
 use Rattle.ion.specs.Numbers.Padded.{padded}
 use Rattle.ion.specs.Pair.Offset.{offsetMinutes}
@@ -42,13 +43,13 @@ clock-is h m l =
 
 -- after a plus they are the text of a known offset
 plus-text : (n : ℕ) → code "+" ∷ clockText n ≡ minutesText (pos n)
-unfolding minutesText clockText marked padded places placesOn placeCount count countIn
+unfolding minutesText clockText marked paddedPlaces places placesOn placeCount count countIn
 plus-text zero = refl
 plus-text (suc n) = refl
 
 -- none after a minus are the text of the unknown one
 no-clock : code "-" ∷ clockText 0 ≡ unknownText
-unfolding clockText marked padded places placesOn placeCount count countIn
+unfolding clockText marked paddedPlaces places placesOn placeCount count countIn
 no-clock = refl
 
 -- ---- what is read

@@ -36,7 +36,12 @@ fn format_fractional_seconds(buf: &mut [u8], at: usize, digits: u32, attoseconds
     }
     let next = put_byte(buf, at, b'.');
     let n = digits as usize;
-    text_formatter::put_digits(buf, next, n, attoseconds / fraction::scale(digits as u64));
+    text_formatter::put_digits(
+        buf,
+        next + n,
+        attoseconds / fraction::scale(digits as u64),
+        n,
+    );
     next + n
 }
 

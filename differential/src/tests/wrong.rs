@@ -38,7 +38,9 @@ enum Fault {
     RoomFirst,
     NoLastMark,
     SignOnTheLastByte,
+    /// Padded digits that stop at the width, and those that stop at the number.
     NeverWider,
+    NeverPadded,
     NoDayMoved,
     /// A reader of texts that leaves what follows.
     ReadsABeginning,
@@ -94,6 +96,7 @@ const ALL: [Fault; 37] = [
     Fault::NoLastMark,
     Fault::SignOnTheLastByte,
     Fault::NeverWider,
+    Fault::NeverPadded,
     Fault::NoDayMoved,
     Fault::ReadsABeginning,
     Fault::ReadsUnknownAsZero,
@@ -312,9 +315,10 @@ impl Library for Wrong {
     }
 
     fn write_zero_padded(&self, value: u64, width: usize, buffer: &mut [u8]) -> Option<Written> {
-        let value = match self.0 {
-            Fault::NeverWider if width < 20 => value % 10u64.pow(width as u32),
-            _ => value,
+        let (value, width) = match self.0 {
+            Fault::NeverWider if width < 20 => (value % 10u64.pow(width as u32), width),
+            Fault::NeverPadded => (value, 0),
+            _ => (value, width),
         };
         Model.write_zero_padded(value, width, buffer)
     }

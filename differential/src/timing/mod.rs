@@ -5,9 +5,10 @@
 //! each and then its work: the Rust "with the check" does the same, by `try_from_bits`, and the Rust "bare" is given
 //! timestamps that were checked before, and only works.
 //!
-//! Inputs: 1024 field sets that are accepted, drawn from a seed, their pairs, and for each pair one close to it. The
-//! inputs are passed over many times, so that they are in the cache. Writers write into one buffer of 64 bytes, which
-//! is never cleared: it holds what the call before wrote, and is in the cache.
+//! Inputs: 1024 field sets that are accepted, drawn from a seed, their pairs, and for each pair one close to it; 1024
+//! numbers of each of three kinds, with the widths to which they are padded. They are passed over many times, so that
+//! they are in the cache. Writers write into one buffer of 64 bytes, which is never cleared: it holds what the call
+//! before wrote, and is in the cache.
 
 pub(crate) mod scans;
 
@@ -17,6 +18,7 @@ use crate::generate;
 use crate::oracle::{self, Answer};
 use crate::plain_reader;
 use crate::random::Random;
+use crate::text::text_formatter;
 use crate::Timestamp;
 use std::fmt;
 use std::hint::black_box;
@@ -34,6 +36,31 @@ struct Inputs {
     near_stamps: Vec<Timestamp>,
     values: Vec<Vec<u8>>,
     texts: Vec<Vec<u8>>,
+    numbers: Numbers,
+}
+
+/// Numbers and the widths to which they are padded.
+struct Numbers {
+    /// Two digits, as most fields of a text.
+    fields: Vec<(u64, usize)>,
+    /// Up to seven digits, in full, as counts are printed.
+    counts: Vec<(u64, usize)>,
+    /// One to twenty digits, to any width up to 20.
+    any: Vec<(u64, usize)>,
+}
+
+fn numbers(random: &mut Random) -> Numbers {
+    let mut drawn = |draw: fn(&mut Random) -> (u64, usize)| (0..INPUTS).map(|_| draw(random)).collect();
+    /// A number of up to so many digits, each number of them as frequent.
+    fn of_digits(random: &mut Random, most: u64) -> u64 {
+        let digits = 1 + random.below(most) as u32;
+        random.bits() % 10u64.checked_pow(digits).unwrap_or(u64::MAX)
+    }
+    Numbers {
+        fields: drawn(|random| (random.below(60), 2)),
+        counts: drawn(|random| (of_digits(random, 7), 1)),
+        any: drawn(|random| (of_digits(random, 20), random.below(21) as usize)),
+    }
 }
 
 pub(crate) fn stamp(pair: Pair) -> Timestamp {
@@ -64,6 +91,7 @@ fn inputs(seed: u64) -> Inputs {
         near_stamps: near.iter().map(|pair| stamp(*pair)).collect(),
         values: pairs.iter().map(|pair| written(oracle::value(*pair))).collect(),
         texts: pairs.iter().map(|pair| written(oracle::text(*pair))).collect(),
+        numbers: numbers(&mut random),
         builds,
         pairs,
         near,
@@ -118,6 +146,12 @@ impl fmt::Write for Lent<'_> {
 fn write_text(stamp: &Timestamp, buffer: &mut [u8]) -> usize {
     let mut lent = Lent { buffer, at: 0 };
     stamp.format(&mut lent).expect("64 bytes are enough");
+    lent.at
+}
+
+fn write_padded((value, width): (u64, usize), buffer: &mut [u8]) -> usize {
+    let mut lent = Lent { buffer, at: 0 };
+    text_formatter::write_zero_padded(&mut lent, value, width).expect("64 bytes are enough");
     lent.at
 }
 
@@ -182,6 +216,16 @@ pub fn run<L: Library>(library: &L, seed: u64) {
 fn rows<'a, L: Library>(library: &'a L, inputs: &'a Inputs) -> Vec<Row<'a>> {
     let (builds, pairs, near) = (&inputs.builds, &inputs.pairs, &inputs.near);
     let (stamps, near_stamps, values, texts) = (&inputs.stamps, &inputs.near_stamps, &inputs.values, &inputs.texts);
+    let padded = |name, numbers: &'a [(u64, usize)]| {
+        Row::new(
+            name,
+            [
+                writing(|at, buffer| write_padded(numbers[at], buffer)),
+                None,
+                writing(|at, buffer| library.write_zero_padded(numbers[at].0, numbers[at].1, buffer)),
+            ],
+        )
+    };
     vec![
         // The builder's checks are the call itself.
         Row::new(
@@ -244,5 +288,8 @@ fn rows<'a, L: Library>(library: &'a L, inputs: &'a Inputs) -> Vec<Row<'a>> {
                 timed(|at| library.read_text(&texts[at])),
             ],
         ),
+        padded("padded field", &inputs.numbers.fields),
+        padded("padded count", &inputs.numbers.counts),
+        padded("padded any", &inputs.numbers.any),
     ]
 }

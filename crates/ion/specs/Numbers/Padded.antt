@@ -1,7 +1,8 @@
 -- Numbers in decimal, as text. Assumes nothing.
-use Prim.Native.Nat.{ℕ, _+_, max}
+use Prim.Native.Nat.{ℕ, _+_}
 use mathlib.Core.List.{List}
 use Rattle.places.specs.Places.{places, placeCount}
+use Rattle.places.specs.Padded.{paddedPlaces}
 
 -- a digit as text
 abbrev pub digit : ℕ → ℕ
@@ -16,5 +17,5 @@ abbrev pub digitCount : ℕ → ℕ
 digitCount n = placeCount 10 n
 
 -- n in decimal, with zeros in front up to the width w; a wider number in full
-unfoldable pub padded : ℕ → ℕ → List ℕ
-padded w n = lastDigits (max w (digitCount n)) n
+abbrev pub padded : ℕ → ℕ → List ℕ
+padded w n = paddedPlaces 10 digit w n
