@@ -74,7 +74,7 @@ enum Fault {
     LeavesTheDamage,
 }
 
-const ALL: [Fault; 37] = [
+const ALL: [Fault; 38] = [
     Fault::ReadsNothing,
     Fault::TakesMore,
     Fault::DropsTheSecond,
