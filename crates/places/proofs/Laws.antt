@@ -45,6 +45,10 @@ module _ (b : ℕ) (hb : 1 < b) where
   up : (n q : ℕ) → q / b < b ^ n → q < b ^ suc n
   up n q h = rw (pow-suc b n) (div-lt-iff-lt-mul pos .0 h)
 
+  -- without its lowest place and then without k more
+  div-power : (k n : ℕ) → n / b / b ^ k ≡ n / b ^ suc k
+  div-power k n = div-div-eq-div-mul n b (b ^ k) ∙ ap (λ (m : ℕ). n / m) (sym (pow-succ' b k))
+
   less : (q : ℕ) → suc q / b ≤ q
   less q = omega (arith, div-lt-self {n = suc q} (omega arith) hb)
 
@@ -133,9 +137,8 @@ module _ (b : ℕ) (hb : 1 < b) where
   pub place-split : (k n : ℕ) → b ^ k ≤ n → placeCount b n ≡ k + placeCount b (n / b ^ k)
   place-split zero n h = rw (pow-zero b, div-one) (sym (zero-add (placeCount b n)))
   place-split (suc k) n h =
-      let e : n / b / b ^ k ≡ n / b ^ suc k = div-div-eq-div-mul n b (b ^ k) ∙ ap (λ (m : ℕ). n / m) (sym (pow-succ' b k)) in
       let l : b ^ k ≤ n / b = le-div-iff-mul-le pos .1 (rw (pow-suc b k) at h) in
-      rw (← e) (omega (arith, place-next n (omega (arith, above k)), place-split k (n / b) l))
+      rw (← div-power k n) (omega (arith, place-next n (omega (arith, above k)), place-split k (n / b) l))
 
   pub place-monotone : (m n : ℕ) → m ≤ n → placeCount b m ≤ placeCount b n
   place-monotone m n h = fewest (placeCount b n) m (place-some n) (lt-of-le-of-lt h (held n))
@@ -150,9 +153,7 @@ module _ (b : ℕ) (hb : 1 < b) where
     pub places-add : (j k q : ℕ) (t : List ℕ) → placesOn b f (j + k) q t ≡ placesOn b f j (q / b ^ k) (placesOn b f k q t)
     unfolding placesOn
     places-add j zero q t = rw (add-zero, pow-zero b, div-one)
-    places-add j (suc k) q t =
-        let e : q / b / b ^ k ≡ q / b ^ suc k = div-div-eq-div-mul q b (b ^ k) ∙ ap (λ (m : ℕ). q / m) (sym (pow-succ' b k)) in
-        rw (add-suc, ← e) (places-add j k (q / b) (f (q % b) ∷ t))
+    places-add j (suc k) q t = rw (add-suc, ← div-power k q) (places-add j k (q / b) (f (q % b) ∷ t))
 
     pub places-mod : (k n : ℕ) (t : List ℕ) → placesOn b f k (n % b ^ k) t ≡ placesOn b f k n t
     unfolding placesOn
