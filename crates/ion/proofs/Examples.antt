@@ -1,6 +1,6 @@
 -- P1 to P12 of the scope, as one table of rows and one theorem: what the definitions give at each row is what the scope states.
 -- Assumes nothing.
-use Prim.Native.Nat.{ℕ, _+_}
+use Prim.Native.Nat.{ℕ}
 use mathlib.Core.Bool.{Bool, true}
 use mathlib.Core.List.{List, [], _∷_, _++_, map}
 use mathlib.Core.Path.{_≡_, refl}

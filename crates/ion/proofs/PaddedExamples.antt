@@ -62,7 +62,7 @@ paddedRows =
     ∷ row 6 10203 6 4 "0203"
     ∷ row 6 10203 6 5 "10203"
     ∷ row 6 10203 6 6 "010203"
-    -- a power of ten, and one less, at each number of digits that a comparison tells
+    -- powers of ten, and one less
     ∷ row 1 99999 5 5 "99999"
     ∷ row 1 100000 6 6 "100000"
     ∷ row 1 10000000000 11 11 "10000000000"
