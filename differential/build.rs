@@ -20,6 +20,9 @@ const ROOT_MODULES: [(&str, &str); 8] = [
     ("types", "types/mod.rs"),
 ];
 
+/// The crates of the proved library whose calls are linked.
+const EXPORTS: [&str; 3] = ["test_calendar_exports", "test_exports", "test_scan_exports"];
+
 fn main() {
     let out = PathBuf::from(env::var("OUT_DIR").unwrap());
     let manifest = PathBuf::from(env::var("CARGO_MANIFEST_DIR").unwrap());
@@ -39,7 +42,7 @@ fn main() {
     println!("cargo:rerun-if-changed={}", stand_ins.display());
 
     if env::var_os("CARGO_FEATURE_OURS").is_some() {
-        link_ours(&from_environment("OURS_LIB", &repository, "target/staticlib/libtest_exports.a"));
+        link_ours(&from_environment("OURS_LIBS", &repository, "target/staticlib"));
     }
 }
 
@@ -76,13 +79,14 @@ fn write_root(tree: &Path, root: &Path) {
     fs::write(root, text).unwrap();
 }
 
-fn link_ours(archive: &Path) {
-    if !archive.is_file() {
-        panic!("no library at {}: make it with `rt staticlib test_exports`, or set OURS_LIB", archive.display());
+fn link_ours(folder: &Path) {
+    println!("cargo:rustc-link-search=native={}", folder.display());
+    for name in EXPORTS {
+        let archive = folder.join(format!("lib{name}.a"));
+        if !archive.is_file() {
+            panic!("no library at {}: make it with `rt staticlib {name}`, or set OURS_LIBS", archive.display());
+        }
+        println!("cargo:rustc-link-lib=static={name}");
+        println!("cargo:rerun-if-changed={}", archive.display());
     }
-    let name = archive.file_stem().unwrap().to_str().unwrap();
-    let name = name.strip_prefix("lib").expect("the archive's name begins with lib");
-    println!("cargo:rustc-link-search=native={}", archive.parent().unwrap().display());
-    println!("cargo:rustc-link-lib=static={name}");
-    println!("cargo:rerun-if-changed={}", archive.display());
 }

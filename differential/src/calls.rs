@@ -262,4 +262,6 @@ pub trait Library {
     fn write_var_int(&self, value: i64, buffer: &mut [u8]) -> Option<Written>;
     fn write_zero_padded(&self, value: u64, width: usize, buffer: &mut [u8]) -> Option<Written>;
     fn add_offset_to_utc(&self, time: DateTime, offset: i32) -> Option<DateTime>;
+    /// The month's length; 0 for a month outside 1 to 12 and for a year above 10000.
+    fn days_in_month(&self, year: u32, month: u32) -> u32;
 }

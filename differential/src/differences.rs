@@ -7,9 +7,10 @@ use crate::calls::{Build, Pair, Stage};
 pub enum Listed {
     LargestFromZero,
     OrderOfUtcForms,
+    NoMonthLength,
 }
 
-pub const ALL: [(Listed, &str); 2] = [
+pub const ALL: [(Listed, &str); 3] = [
     (
         Listed::LargestFromZero,
         "month or day 4294967295 counted from 0: the scope refuses it with 3 or 4; \
@@ -18,6 +19,11 @@ pub const ALL: [(Listed, &str); 2] = [
     (
         Listed::OrderOfUtcForms,
         "a UTC form of year 0 or 10000: the scope's order refuses it with 11 or 2; the Rust goes on to order it",
+    ),
+    (
+        Listed::NoMonthLength,
+        "the length of a month outside 1 to 12, or of a year above 10000: the scope answers 0; \
+         the Rust panics, or gives the month its length",
     ),
 ];
 
@@ -34,4 +40,9 @@ pub fn largest_from_zero(build: &Build) -> Option<Build> {
 /// Whether a UTC form has a year that the packed check refuses.
 pub fn outside_years(utc_form: Pair) -> bool {
     matches!(utc_form.word >> 50, 0 | 10_000)
+}
+
+/// Whether the scope has no length for the month.
+pub fn no_month_length(year: u32, month: u32) -> bool {
+    !(1..=12).contains(&month) || year > 10_000
 }

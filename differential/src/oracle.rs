@@ -327,3 +327,9 @@ pub fn add_offset_to_utc(time: DateTime, offset: i32) -> Answer<DateTime> {
         })
     })
 }
+
+/// None where year or month do not fit the Rust's widths.
+pub fn days_in_month(year: u32, month: u32) -> Option<Answer<u32>> {
+    let (year, month) = (year.try_into().ok()?, month.try_into().ok()?);
+    Some(caught_part(|| Ok(opened::days_in_month(year, month) as u32)))
+}

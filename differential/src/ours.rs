@@ -1,9 +1,10 @@
-//! The proved library: its exported calls, made by `rt staticlib test_exports` and linked under the feature `ours`.
+//! The proved library: the exported calls of its crates `test_calendar_exports`, `test_exports` and `test_scan_exports`,
+//! each made an archive by `rt staticlib` and linked under the feature `ours`.
 //!
 //! Every call returns the scope's number. Everything else that it answers comes back through references, which a
 //! refusal sets to 0; a byte slice is a pointer and a length. The numbers above 100 are the exported calls' own, for
 //! codes that stand for nothing and for a shift of what is no date and time. Nothing checks these declarations against
-//! the library's own (crates/test_exports/src), so they stand in this one place.
+//! the library's own (in these crates' src), so they stand in this one place.
 
 use crate::calls::*;
 
@@ -86,6 +87,7 @@ extern "C" {
         offset: i32,
         time: &mut [u32; 5],
     ) -> u32;
+    fn days_in_month(year: u32, month: u32) -> u32;
 }
 
 pub struct Ours;
@@ -324,5 +326,9 @@ impl Library for Ours {
         unsafe { add_offset_to_utc(time.year, time.month, time.day, time.hour, time.minute, offset, &mut moved) };
         let [year, month, day, hour, minute] = moved;
         Some(DateTime { year, month, day, hour, minute })
+    }
+
+    fn days_in_month(&self, year: u32, month: u32) -> u32 {
+        unsafe { days_in_month(year, month) }
     }
 }

@@ -1,11 +1,11 @@
 -- What the checks 1 to 9 leave, both ways. Assumes nothing.
 use mathlib.Core.Path.{_≡_, refl, ap}
-use mathlib.Core.Bool.{true, false, not, and-eq-true-iff}
+use mathlib.Core.Bool.{true, false, not}
 use Prim.Native.Nat.{ℕ, _^_, _≤_, _<_}
 use native.Mathlib.Omega.{arith}
-use lib.Dec.{leb}
 use lib.IntN.{ℤ, natAbs}
-use borrow.Author.Tests.{lt-ltb, le-ltb, lt-leb, ltb-false, leb-false, ltb-true, leb-true, le-leb, not-false}
+use borrow.Author.Tests.{lt-ltb, le-ltb, lt-leb, ltb-false, leb-false, ltb-true, not-false}
+use Rattle.places.proofs.Decides.{Decides, le-decides, _and_}
 use Rattle.ion.specs.Pair.Offset.{WithinDay, isOffset}
 use Rattle.ion.specs.Calls.Build.{precisionNumber, rangeChecks, offsetOutside, toOffset, isYear}
 use Rattle.ion.specs.Calls.Accepted.{InBounds}
@@ -65,9 +65,5 @@ precision-le Day = omega arith
 precision-le HourAndMinute = omega arith
 precision-le Second = omega arith
 
--- a local year, both ways
-pub year-is : (y : ℕ) → isYear y ≡ true → (1 ≤ y) × (y ≤ 9999)
-year-is y e = let k = and-eq-true-iff (leb 1 y) (leb y 9999) .0 e in (leb-true 1 y (k .0), leb-true y 9999 (k .1))
-
-pub is-year : (y : ℕ) → 1 ≤ y → y ≤ 9999 → isYear y ≡ true
-is-year y h k = simp (le-leb 1 y h, le-leb y 9999 k)
+pub year-decides : (y : ℕ) → Decides (isYear y) ((1 ≤ y) × (y ≤ 9999))
+year-decides y = le-decides 1 y and le-decides y 9999

@@ -1,15 +1,18 @@
 -- The local time of fields that pass the builder's checks. Assumes nothing.
-use mathlib.Core.Path.{_≡_, ap}
+use mathlib.Core.Path.{_≡_, ap, _∙_}
 use mathlib.Core.Bool.{true}
 use mathlib.Core.List.{_++_}
-use Prim.Native.Nat.{_≤_, _<_}
+use Prim.Native.Nat.{ℕ, _≤_, _<_}
 use native.Mathlib.Omega.{arith}
+use lib.IntN.{pos, negℤ}
 use borrow.Author.Tests.{not-false}
-use Rattle.ion.specs.Calendar.Shift.{IsDateTime, dateOf}
-use Rattle.ion.specs.Pair.Offset.{WithinDay}
+use Rattle.integers.proofs.Parts.{neg-parts}
+use Rattle.ion.specs.Calendar.Shift.{IsDateTime, dateOf, shifted}
+use Rattle.ion.specs.Pair.Offset.{WithinDay, offsetMinutes}
 use Rattle.ion.specs.Pair.Word.{InRange}
-use Rattle.ion.specs.Calls.Build.{precisionNumber, isYear, isDay, toOffset, routeChecks, localChecks, givenTime, movedTime, localTime}
-use Rattle.ion.specs.Calls.Build.{rangeChecks, packedOf, buildNumber}
+use Rattle.ion.specs.Calls.Build.{precisionNumber, isYear, isDay, routeChecks, localChecks, givenTime, movedTime, localTime}
+use Rattle.ion.specs.Calls.Build.{rangeChecks, packedOf, refusedBuild, buildNumber, buildOf}
+use Rattle.ion.specs.Calls.Refusal.{localYearRefused}
 use Rattle.ion.specs.Calls.Accepted.{InBounds, Staged, dateIn, timeIn}
 use Rattle.ion.specs.declared.DateTime.{DateTime}
 use Rattle.ion.specs.declared.Fields.{Fields}
@@ -21,10 +24,10 @@ use Rattle.ion.specs.declared.offset.Offset.{Offset}
 use Rattle.ion.proofs.Offsets.{raw-lt}
 use Rattle.calendar.proofs.Dates.{is-date, first-day-is, month-of, day-of}
 use Rattle.calendar.proofs.Shifts.{shifted-is}
-use Rattle.calendar.proofs.FirstDay.{moved-room}
+use Rattle.calendar.proofs.FirstDay.{year-zero-back}
 use Rattle.builder.proofs.Checks.{AllPass, zero-pass, pass-left, pass-right}
-use Rattle.builder.proofs.Bounds.{in-bounds, precision-le, year-is}
-use Rattle.builder.proofs.Routed.{all-numbered}
+use Rattle.builder.proofs.Bounds.{in-bounds, precision-le, bounds-pass, year-decides}
+use Rattle.builder.proofs.Routed.{all-numbered, routed, build-routed}
 
 -- fields in bounds with such a calendar day are a date and a time
 pub time-is : (f : BuilderFields) → InBounds f → isDay f ≡ true → IsDateTime (givenTime f)
@@ -56,18 +59,17 @@ pub record IsLocalTime (t : DateTime) : Type 0 where
 
 given-is : (f : BuilderFields) → InBounds f → AllPass (localChecks f) → IsLocalTime (givenTime f)
 given-is f b h =
-    let y = year-is (f .year) (not-false (isYear (f .year)) (h .0)) in
+    let y = year-decides (f .year) .0 (not-false (isYear (f .year)) (h .0)) in
     record { time = time-is f b (not-false (isDay f) (h .1 .0)); from-year = y .0; to-year = y .1 }
 
 -- the local time, on either route
-local-is : (f : BuilderFields) (o : BuilderOffset) → InBounds f → WithinDay (toOffset o) → AllPass (routeChecks f o)
-    → IsLocalTime (localTime f o)
-local-is f Unknown b w h = given-is f b h
-local-is f (FromLocalFields m) b w h = given-is f b h
-local-is f (FromUtcFields m) b w h =
+local-is : (f : BuilderFields) (o : BuilderOffset) → InBounds f → AllPass (routeChecks f o) → IsLocalTime (localTime f o)
+local-is f Unknown b h = given-is f b h
+local-is f (FromLocalFields m) b h = given-is f b h
+local-is f (FromUtcFields m) b h =
     let p = time-is f b (not-false (isDay f) (h .0)) in
-    let y = year-is (movedTime f m .year) (not-false (isYear (movedTime f m .year)) (h .1 .0)) in
-    record { time = shifted-is (givenTime f) (m .0) p (moved-room (givenTime f) (m .0) p w (y .0)); from-year = y .0; to-year = y .1 }
+    let y = year-decides (movedTime f m .year) .0 (not-false (isYear (movedTime f m .year)) (h .1 .0)) in
+    record { time = shifted-is (givenTime f) (m .0) p; from-year = y .0; to-year = y .1 }
 
 -- what the builder accepts
 pub build-local : (f : BuilderFields) → buildNumber f ≡ 0 → InBounds f × IsLocalTime (localTime f (f .offset))
@@ -76,4 +78,13 @@ build-local f e =
     let r = routeChecks f (f .offset) in
     let h = zero-pass (rangeChecks f ++ r) (all-numbered f) e in
     let i = in-bounds f (pass-left (rangeChecks f) r h) in
-    (i, local-is f (f .offset) i (i .offset) (pass-right (rangeChecks f) r h))
+    (i, local-is f (f .offset) i (pass-right (rangeChecks f) r h))
+
+-- fields of UTC year 0 and an offset of n minutes back: the local year is 0 too
+pub year-zero-refused : (f : BuilderFields) (n : ℕ) → InBounds f → isDay f ≡ true → f .year ≡ 0
+    → f .offset ≡ FromUtcFields (offsetMinutes (negℤ (pos n))) → buildOf f ≡ refusedBuild localYearRefused
+year-zero-refused f n b d y e =
+    let z = negℤ (pos n) in
+    let k : shifted (givenTime f) z .year ≡ 0 =
+    year-zero-back (givenTime f) z (omega (arith, b .hour)) (omega (arith, b .minute)) y (neg-parts (pos n) .0) in
+    build-routed f (bounds-pass f b) ∙ ap (routed f) e ∙ simp (d, k)

@@ -1,18 +1,19 @@
 -- Dates: what is a date, the number of one, and the order that the number keeps. Assumes nothing.
 use mathlib.Core.Path.{_≡_, refl, sym}
 use mathlib.Core.Logic.{_⊎_, inl, inr}
-use mathlib.Core.Bool.{true, false, _&&_, and-false, and-eq-true-iff}
+use mathlib.Core.Bool.{true, false, and-true, and-false}
 use Prim.Native.Nat.{ℕ, _+_, _-_, _≤_, _<_}
 use native.Mathlib.Decide.{decLe, decLt}
 use native.Mathlib.Omega.{arith}
 use lib.Dec.{leb}
-use borrow.Author.Tests.{leb-true, le-leb, lt-leb}
+use borrow.Author.Tests.{le-leb, lt-leb}
+use Rattle.places.proofs.Decides.{Decides, le-decides, _and_}
 use Rattle.ion.specs.Calendar.Dates.{isLeap, monthLengthOf, monthLength, yearLength, sumBelow, monthStart, dayNumber, IsDate, Earlier}
-use Rattle.ion.specs.Calendar.Dates.{isDate}
+use Rattle.ion.specs.Calendar.Dates.{isMonth, isDate}
 use Rattle.ion.specs.declared.Date.{Date}
 use Rattle.calendar.proofs.Sums.{sum-past}
 use Rattle.calendar.proofs.Years.{leapsBefore, leap-day-le, year-start}
-use Rattle.calendar.proofs.Months.{month-least, month-from-one, month-to-twelve, month-most, months-year}
+use Rattle.calendar.proofs.Months.{month-decides, no-month, month-least, month-from-one, month-to-twelve, month-most, months-year}
 
 -- ---- what is a date
 
@@ -36,31 +37,32 @@ module _ (t : Date) where
   abbrev days : ℕ
   days = monthLength (t .year) (t .month)
 
+  tested : Decides (isDate t) ((1 ≤ t .day) × (t .day ≤ days))
+  tested = le-decides 1 (t .day) and le-decides (t .day) days
+
   pub is-date : isDate t ≡ true → IsDate t
-  is-date e =
-      let b = and-eq-true-iff (leb 1 (t .day)) (leb (t .day) days) .0 e in
-      record { first = leb-true 1 (t .day) (b .0); last = leb-true (t .day) days (b .1) }
+  is-date e = let b = tested .0 e in record { first = b .0; last = b .1 }
 
   pub date-is : IsDate t → isDate t ≡ true
-  date-is p = and-eq-true-iff (leb 1 (t .day)) (leb (t .day) days) .1 (le-leb 1 (t .day) (p .first), le-leb (t .day) days (p .last))
+  date-is p = tested .1 (p .first, p .last)
 
--- up to day 28 the month decides
-pub low-day : (t : Date) → 1 ≤ t .day → t .day ≤ 28 → (leb 1 (t .month) && leb (t .month) 12) ≡ isDate t
-low-day t h k = go (decLe 1 (t .month)) (decLe (t .month) 12)
+-- a month that there is not has no day
+pub no-day : (t : Date) → isMonth (t .month) ≡ false → isDate t ≡ false
+no-day t e = go (decLe 1 (t .day))
   where
-    none : (0 < days t → ⊥) → isDate t ≡ false
-    none n = let l : days t < t .day = omega (arith, h, n) in simp (lt-leb (t .day) (days t) l, and-false)
+    none : days t ≡ 0
+    none = no-month (isLeap (t .year)) (t .month) e
 
-    go : Dec (1 ≤ t .month) → Dec (t .month ≤ 12) → (leb 1 (t .month) && leb (t .month) 12) ≡ isDate t
-    go (yes m) (yes n) =
-        let p = date-is t (record { first = h; last = omega (arith, k, month-least (isLeap (t .year)) (t .month) m n) }) in
-        simp (le-leb _ _ m, le-leb _ _ n) (sym p)
-    go (yes m) (no n) =
-        let l : 12 < t .month = omega (arith, n) in
-        simp (lt-leb _ _ l, and-false) (sym (none (λ d. n (month-to-twelve (isLeap (t .year)) (t .month) d))))
-    go (no m) n =
-        let l : t .month < 1 = omega (arith, m) in
-        simp (lt-leb _ _ l) (sym (none (λ d. m (month-from-one (isLeap (t .year)) (t .month) d))))
+    go : Dec (1 ≤ t .day) → isDate t ≡ false
+    go (yes h) = let l : days t < t .day = omega (arith, none) in simp (lt-leb (t .day) (days t) l, and-false)
+    go (no h) = let l : t .day < 1 = omega arith in simp (lt-leb 1 (t .day) l)
+
+-- up to day 28 every month has it
+pub low-day : (t : Date) → isMonth (t .month) ≡ true → t .day ≤ 28 → leb 1 (t .day) ≡ isDate t
+low-day t e k =
+    let m = month-decides (t .month) .0 e in
+    let l : t .day ≤ days t = omega (arith, month-least (isLeap (t .year)) (t .month) (m .0) (m .1)) in
+    simp (le-leb (t .day) (days t) l, and-true)
 
 -- every year has a first day
 pub first-day-is : (y : ℕ) → isDate (record { year = y; month = 1; day = 1 }) ≡ true

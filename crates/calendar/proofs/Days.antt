@@ -46,26 +46,27 @@ next-day t p = go (decLt (t .day) (monthLength (t .year) (t .month))) (decLt (t 
           ),
         )
 
-pub prev-day : (t : Date) → IsDate t → 0 < dayNumber t → IsDate (prevDay t) × (dayNumber (prevDay t) + 1 ≡ dayNumber t)
-prev-day t p pos = go (decLt 1 (t .day)) (decLt 1 (t .month))
+-- the day before 0000-01-01 is a date too, but has no number below
+pub prev-day : (t : Date) → IsDate t → IsDate (prevDay t) × (0 < dayNumber t → dayNumber (prevDay t) + 1 ≡ dayNumber t)
+prev-day t p = go (decLt 1 (t .day)) (decLt 1 (t .month))
   where
-    go : Dec (1 < t .day) → Dec (1 < t .month) → IsDate (prevDay t) × (dayNumber (prevDay t) + 1 ≡ dayNumber t)
-    go (yes h) k = simp (lt-ltb _ _ h) (record { first = omega arith; last = omega (arith, p .last) }, omega arith)
+    go : Dec (1 < t .day) → Dec (1 < t .month) → IsDate (prevDay t) × (0 < dayNumber t → dayNumber (prevDay t) + 1 ≡ dayNumber t)
+    go (yes h) k = simp (lt-ltb _ _ h) (record { first = omega arith; last = omega (arith, p .last) }, λ pos. omega arith)
     go (no h) (yes k) =
         let low : t .day ≤ 1 = omega arith in
         let e : t .month - 1 + 1 ≡ t .month = omega arith in
         let days = month-least (isLeap (t .year)) (t .month - 1) (omega arith) (omega (arith, month-of t p)) in
         simp (le-ltb _ _ low, lt-ltb _ _ k) (
           record { first = omega (arith, days); last = le-refl _ },
-          omega (arith, p .first, days, sum-more (monthLength (t .year)) (t .month - 1), ap (monthStart (t .year)) e),
+          λ pos. omega (arith, p .first, days, sum-more (monthLength (t .year)) (t .month - 1), ap (monthStart (t .year)) e),
         )
     go (no h) (no k) = simp (le-ltb _ _ low, le-ltb _ _ low′) (
       record { first = lit≤ tt; last = le-of-eq (sym (december _)) },
-      omega (
+      λ pos. omega (
         arith,
         first,
         sum-more yearLength (t .year - 1),
-        ap yearStart e,
+        ap yearStart (e pos),
         sum-more (monthLength (t .year - 1)) 12,
         months-year (isLeap (t .year - 1)),
         december (isLeap (t .year - 1)),
@@ -87,5 +88,5 @@ prev-day t p pos = go (decLt 1 (t .day)) (decLt 1 (t .month))
               ap (monthStart (t .year)) (let f : t .month ≡ 1 = omega (arith, month-low t p) in f),
             )
 
-        e : t .year - 1 + 1 ≡ t .year
-        e = year-pos (t .year) (omega (arith, first, pos))
+        e : 0 < dayNumber t → t .year - 1 + 1 ≡ t .year
+        e pos = year-pos (t .year) (omega (arith, first, pos))

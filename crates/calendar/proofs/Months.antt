@@ -1,7 +1,7 @@
 -- The lengths of months, and the days before a month of its year: each is a table's entry, one more in a leap year for some months.
 -- Assumes nothing.
-use mathlib.Core.Path.{_≡_, refl, _∙_}
-use mathlib.Core.Bool.{Bool, true, false, cond}
+use mathlib.Core.Path.{_≡_, refl, sym, _∙_}
+use mathlib.Core.Bool.{Bool, true, false, true≢false, cond}
 use mathlib.Core.List.{List, [], _∷_}
 use Prim.Native.Nat.{ℕ, zero, suc, _+_, _≤_, _<_}
 use native.Mathlib.Nat.{add-zero}
@@ -11,7 +11,8 @@ use lib.Dec.{T, eqb, leb, ltb, eqb→eq, leb→le}
 use lib.ListN.{length, getD, List·getD-eq-default}
 use borrow.Author.Tests.{lt-ltb, le-ltb, ne-eqb}
 use Rattle.places.proofs.Table.{every, at}
-use Rattle.ion.specs.Calendar.Dates.{leapDay, monthLengths, monthLengthOf, sumBelow}
+use Rattle.places.proofs.Decides.{Decides, le-decides, _and_}
+use Rattle.ion.specs.Calendar.Dates.{leapDay, monthLengths, monthLengthOf, sumBelow, isMonth}
 use Rattle.calendar.proofs.Sums.{sum-past}
 
 -- ---- what a table says of each month
@@ -29,9 +30,12 @@ by-table f shares xs t u false m h = eqb→eq _ _ (at (entryIs f shares false) x
 
 -- ---- lengths
 
-pub no-month : (leap : Bool) (m : ℕ) → 12 < m → monthLengthOf leap m ≡ 0
+pub month-decides : (m : ℕ) → Decides (isMonth m) ((1 ≤ m) × (m ≤ 12))
+month-decides m = le-decides 1 m and le-decides m 12
+
+past-december : (leap : Bool) (m : ℕ) → 12 < m → monthLengthOf leap m ≡ 0
 unfolding monthLengthOf
-no-month leap m h = List·getD-eq-default (0 ∷ monthLengths leap) 0 h
+past-december leap m h = List·getD-eq-default (0 ∷ monthLengths leap) 0 h
 
 length-is : (leap : Bool) (m : ℕ) → m ≤ 12 → monthLengthOf leap m ≡ getD (0 ∷ monthLengths false) m 0 + cond (eqb m 2) (leapDay leap) 0
 unfolding entryIs monthLengthOf
@@ -68,7 +72,15 @@ month-to-twelve leap m h = go (decLe m 12)
   where
     go : Dec (m ≤ 12) → m ≤ 12
     go (yes k) = k
-    go (no n) = omega (arith, n, no-month leap m (omega (arith, n)))
+    go (no n) = omega (arith, n, past-december leap m (omega (arith, n)))
+
+-- no other has one
+pub no-month : (leap : Bool) (m : ℕ) → isMonth m ≡ false → monthLengthOf leap m ≡ 0
+no-month leap m e = go (decLe 1 (monthLengthOf leap m))
+  where
+    go : Dec (1 ≤ monthLengthOf leap m) → monthLengthOf leap m ≡ 0
+    go (yes h) = absurd (true≢false (sym (month-decides m .1 (month-from-one leap m h, month-to-twelve leap m h)) ∙ e))
+    go (no h) = omega (arith, h)
 
 pub month-most : (leap : Bool) (m : ℕ) → monthLengthOf leap m ≤ 31
 month-most leap m = go (decLe 1 (monthLengthOf leap m))

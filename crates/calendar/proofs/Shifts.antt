@@ -24,18 +24,19 @@ forward t (suc n) p =
     let k = next-day (repeat nextDay n t) (h .0) in
     (k .0, omega (arith, h .1, k .1))
 
-backward : (t : Date) (n : ℕ) → IsDate t → n ≤ dayNumber t
-    → IsDate (repeat prevDay n t) × (dayNumber (repeat prevDay n t) + n ≡ dayNumber t)
-backward t zero p l = (p, omega arith)
-backward t (suc n) p l =
-    let h = backward t n p (omega arith) in
-    let k = prev-day (repeat prevDay n t) (h .0) (omega (arith, h .1)) in
-    (k .0, omega (arith, h .1, k .1))
+backward : (t : Date) (n : ℕ) → IsDate t
+    → IsDate (repeat prevDay n t) × (n ≤ dayNumber t → dayNumber (repeat prevDay n t) + n ≡ dayNumber t)
+backward t zero p = (p, λ l. omega arith)
+backward t (suc n) p =
+    let h = backward t n p in
+    let k = prev-day (repeat prevDay n t) (h .0) in
+    (k .0, λ l. let e = h .1 (omega arith) in omega (arith, e, k .1 (omega (arith, e))))
 
-pub add-days : (t : Date) (z : ℤ) → IsDate t → down z ≤ dayNumber t
-    → IsDate (addDays t z) × (dayNumber (addDays t z) + down z ≡ dayNumber t + up z)
-add-days t (pos n) p l = let h = forward t n p in (h .0, omega (arith, h .1))
-add-days t (negsuc n) p l = let h = backward t (suc n) p l in (h .0, omega (arith, h .1))
+-- a date as many days away as may be, and its number where there are so many before
+pub add-days : (t : Date) (z : ℤ) → IsDate t
+    → IsDate (addDays t z) × (down z ≤ dayNumber t → dayNumber (addDays t z) + down z ≡ dayNumber t + up z)
+add-days t (pos n) p = let h = forward t n p in (h .0, λ l. omega (arith, h .1))
+add-days t (negsuc n) p = let h = backward t (suc n) p in (h .0, λ l. omega (arith, h .1 l))
 
 -- ---- minutes
 
@@ -49,7 +50,7 @@ minute-number-inj t u p q e =
     let k : t .minute ≡ u .minute = omega (arith, n, h) in
     λ i. record { year = d i .year; month = d i .month; day = d i .day; hour = h i; minute = k i }
 
-module _ (t : DateTime) (z : ℤ) (p : IsDateTime t) (l : down z ≤ minuteNumber t) where
+module _ (t : DateTime) (z : ℤ) (p : IsDateTime t) where
   abbrev time : ℕ
   time = t .hour * 60 + t .minute
 
@@ -59,28 +60,28 @@ module _ (t : DateTime) (z : ℤ) (p : IsDateTime t) (l : down z ≤ minuteNumbe
   abbrev days : ℤ
   days = floorDiv total 1440
 
-  -- the days to go back are there, where the minutes are
-  enough : down days ≤ dayNumber (dateOf t)
-  enough = omega (arith, add-parts (pos time) z, floor-parts total 1440 (lit< tt), apart days, floor-mod-lt total 1440 (lit< tt))
-
-  moved : IsDate (addDays (dateOf t) days) × (dayNumber (addDays (dateOf t) days) + down days ≡ dayNumber (dateOf t) + up days)
-  moved = add-days (dateOf t) days (p .date) enough
-
+  -- whatever the minutes: a day of the calendar and a time of it
   pub shifted-is : IsDateTime (shifted t z)
   shifted-is =
       let r = floor-mod-lt total 1440 (lit< tt) in
-      record { date = moved .0; hours = omega arith; minutes = omega arith }
+      record { date = add-days (dateOf t) days (p .date) .0; hours = omega arith; minutes = omega arith }
 
-  shifted-minutes : minuteNumber (shifted t z) ≡ minuteNumber t plus z
-  shifted-minutes = omega (arith, add-parts (pos time) z, floor-parts total 1440 (lit< tt), moved .1, plus-parts (minuteNumber t) z l)
+  -- the days to go back are there, where the minutes are
+  enough : down z ≤ minuteNumber t → down days ≤ dayNumber (dateOf t)
+  enough l = omega (arith, add-parts (pos time) z, floor-parts total 1440 (lit< tt), apart days, floor-mod-lt total 1440 (lit< tt))
+
+  shifted-minutes : down z ≤ minuteNumber t → minuteNumber (shifted t z) ≡ minuteNumber t plus z
+  shifted-minutes l =
+      let e = add-days (dateOf t) days (p .date) .1 (enough l) in
+      omega (arith, add-parts (pos time) z, floor-parts total 1440 (lit< tt), e, plus-parts (minuteNumber t) z l)
 
 pub shift-back : (t : DateTime) (z : ℤ) → IsDateTime t → down z ≤ minuteNumber t → shifted (shifted t z) (negℤ z) ≡ t
 shift-back t z p l =
-    let s = shifted-is t z p l in
+    let s = shifted-is t z p in
     let e = shifted-minutes t z p l in
     let f = plus-parts (minuteNumber t) z l in
     let k : down (negℤ z) ≤ minuteNumber (shifted t z) = omega (arith, e, f, neg-parts z) in
-    minute-number-inj (shifted (shifted t z) (negℤ z)) t (shifted-is (shifted t z) (negℤ z) s k) p
+    minute-number-inj (shifted (shifted t z) (negℤ z)) t (shifted-is (shifted t z) (negℤ z) s) p
     (shifted-minutes (shifted t z) (negℤ z) s k ∙ omega (arith, e, f, plus-parts (minuteNumber (shifted t z)) (negℤ z) k, neg-parts z))
 
 -- against an offset and with it again

@@ -1,5 +1,6 @@
 pub mod Answers
 pub mod Examples
+pub mod MonthExamples
 pub mod Offsets
 pub mod PaddedExamples
 pub mod Same

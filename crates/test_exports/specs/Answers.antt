@@ -17,8 +17,6 @@ use Rattle.ion.specs.declared.Compared.{Compared}
 use Rattle.ion.specs.declared.Distance.{Distance}
 use Rattle.ion.specs.declared.Written.{Written}
 use Rattle.ion.specs.declared.Read.{Read}
-use Rattle.scans.specs.declared.ScanRead.{ScanRead}
-use Rattle.scans.specs.declared.FileRead.{FileRead}
 
 -- whether an offset is known
 abbrev pub isKnown : Offset → Bool
@@ -81,17 +79,3 @@ pub record ReadIs (x : Read) (n w a k : ℕ) : Type 0 where
   pub word : w ≡ wordIn (x .stamp)
   pub attoseconds : a ≡ x .stamp .attoseconds
   pub taken : k ≡ x .taken
-
--- a scan, and how many bytes it took
-pub record ScanIs (x : ScanRead) (n t g w a k : ℕ) : Type 0 where
-  pub number : n ≡ x .number
-  pub tag : t ≡ x .scan .tag
-  pub guard : g ≡ x .scan .guard
-  pub word : w ≡ wordIn (x .scan .stamp)
-  pub attoseconds : a ≡ x .scan .stamp .attoseconds
-  pub taken : k ≡ x .taken
-
--- how many scans a file holds
-pub record FileIs (x : FileRead) (n k : ℕ) : Type 0 where
-  pub number : n ≡ x .number
-  pub scans : k ≡ x .scans

@@ -1,4 +1,3 @@
 -- What the contracts of the C functions cite beside the definitions of `ion`.
 pub mod Answers
 pub mod Reading
-pub mod Shifting

@@ -12,14 +12,12 @@ use ion::Timestamp;
 use ion::Written;
 use ion::offset;
 use ion::offset::Offset;
-use scans::FileRead;
-use scans::ScanRead;
 ghost use mathlib.Core.Path.{_≡_};
 ghost use Rattle.ion.specs.Pair.Pair.{packedPair};
 ghost use Rattle.test_exports.specs.Answers.{BuiltIs, FieldIs, AttosecondsIs, DecimalIs, isKnown, OffsetIs};
-ghost use Rattle.test_exports.specs.Answers.{OrderedIs, ComparedIs, DistanceIs, WrittenIs, ReadIs, ScanIs, FileIs};
+ghost use Rattle.test_exports.specs.Answers.{OrderedIs, ComparedIs, DistanceIs, WrittenIs, ReadIs};
 
-pub(crate) fn pair(w: u64, a: u64) -> Timestamp
+pub fn pair(w: u64, a: u64) -> Timestamp
     ensures { λ r. ⌜ r ≡ packedPair w a ⌝ }
 {
     Timestamp {
@@ -109,7 +107,7 @@ pub(crate) fn store_distance(
     x.number
 }
 
-pub(crate) fn store_written(x: Written, written: &mut usize) -> u32
+pub fn store_written(x: Written, written: &mut usize) -> u32
     ensures { λ r. ⌜ WrittenIs x r (now (written .exit)) ⌝ }
 {
     *written = x.written;
@@ -123,32 +121,5 @@ pub(crate) fn store_read(x: Read, word: &mut u64, attoseconds: &mut u64, taken: 
     *word = s.packed_fields;
     *attoseconds = s.attoseconds;
     *taken = x.taken;
-    x.number
-}
-
-pub(crate) fn store_scan(
-    x: ScanRead,
-    tag: &mut u32,
-    guard: &mut u32,
-    word: &mut u64,
-    attoseconds: &mut u64,
-    taken: &mut usize,
-) -> u32
-    ensures { λ r. ⌜ ScanIs x r (now (tag .exit)) (now (guard .exit)) (now (word .exit)) (now (attoseconds .exit)) (now (taken .exit)) ⌝ }
-{
-    let scan = x.scan;
-    let s = scan.stamp;
-    *tag = scan.tag;
-    *guard = scan.guard;
-    *word = s.packed_fields;
-    *attoseconds = s.attoseconds;
-    *taken = x.taken;
-    x.number
-}
-
-pub(crate) fn store_file(x: FileRead, scans: &mut usize) -> u32
-    ensures { λ r. ⌜ FileIs x r (now (scans .exit)) ⌝ }
-{
-    *scans = x.scans;
     x.number
 }

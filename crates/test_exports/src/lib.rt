@@ -1,9 +1,10 @@
-// The library's calls as C functions on numbers and byte slices, for tests. Each returns the number of the call's
+// The calls on timestamps as C functions on numbers and byte slices, for tests. Each returns the number of the call's
 // answer and stores the rest of it through references.
 mod answers;
 mod building;
 mod comparing;
 mod reading;
-mod scanning;
-mod shifting;
 mod writing;
+
+pub use answers::pair;
+pub use answers::store_written;

@@ -1,3 +1,4 @@
 pub mod UtcCounts
 pub mod Bytes
 pub mod TwoStamps
+pub mod DaysWanted

@@ -1,1 +1,2 @@
 pub mod TwoStamps
+pub mod DaysWanted

@@ -24,7 +24,7 @@ use Rattle.ion.proofs.Offsets.{back-and-raw}
 use Rattle.calendar.proofs.Dates.{date-is, month-of, day-of}
 use Rattle.fraction.proofs.Scales.{cut-same, cut-multiple}
 use Rattle.builder.proofs.Checks.{pass-zero, pass-append}
-use Rattle.builder.proofs.Bounds.{bounds-pass, is-year}
+use Rattle.builder.proofs.Bounds.{bounds-pass, year-decides}
 use Rattle.timestamp.proofs.Valid.{valid-offset}
 
 -- 5 to 7 read as 4
@@ -163,7 +163,7 @@ all-number : {f : Fields} {a : ℕ} → Valid f a → buildNumber (allOf f a) �
 unfolding buildNumber
 all-number {f} {a} v =
     let b = allOf f a in
-    let y : not (isYear (f .year)) ≡ false = ap not (is-year (f .year) (v .from-year) (v .to-year)) in
+    let y : not (isYear (f .year)) ≡ false = ap not (year-decides (f .year) .1 (v .from-year, v .to-year)) in
     let d : not (isDay b) ≡ false = ap not (date-is (dateIn f) (v .date)) in
     ap (λ (l : List (Bool × ℕ)). firstOf (rangeChecks b ++ l)) (offset-local b (offsetOf (f .offset)) .0)
     ∙ pass-zero (rangeChecks b ++ localChecks b) (pass-append (rangeChecks b) (localChecks b) (bounds-pass b (all-bounds v)) (y, (d, tt)))

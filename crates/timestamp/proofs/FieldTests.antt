@@ -15,7 +15,7 @@ use Rattle.ion.specs.declared.Date.{Date}
 use Rattle.ion.specs.declared.Fields.{Fields}
 use Rattle.ion.specs.declared.Timestamp.{Timestamp}
 use Rattle.calendar.proofs.Dates.{is-date, date-is}
-use Rattle.timestamp.proofs.Decides.{Decides, le-decides, lt-decides, eq-decides, _and_, below-decides}
+use Rattle.places.proofs.Decides.{Decides, le-decides, lt-decides, eq-decides, _and_, below-decides}
 use Rattle.timestamp.proofs.Accepts.{check-gives, check-zero}
 
 -- ---- the fields

@@ -2,7 +2,6 @@ pub mod Rebuilt
 pub mod Valid
 pub mod CheckedFields
 pub mod Accepts
-pub mod Decides
 pub mod FieldTests
 pub mod WordBounds
 pub mod UtcForm

@@ -14,7 +14,7 @@ use Rattle.ion.specs.declared.offset.RawOffset.{RawOffset}
 use Rattle.ion.specs.declared.offset.Offset.{Offset}
 use Rattle.ion.specs.declared.offset.Offset.the-variants.{Unknown, Known}
 use Rattle.ion.proofs.Offsets.{back-and-raw}
-use Rattle.calendar.proofs.Shifts.{shifted-is, shift-room, shifted-year}
+use Rattle.calendar.proofs.Shifts.{shifted-is, shifted-year}
 use Rattle.builder.proofs.Times.{fields-in-range}
 use Rattle.timestamp.proofs.Valid.{valid-time, valid-offset}
 
@@ -45,7 +45,7 @@ moved {f} (Known m) e v w =
     let n = negated-within (m .0) w in
     let p = valid-time v in
     record {
-      time = shifted-is (timeIn f) (negℤ (m .0)) p (shift-room (timeIn f) (negℤ (m .0)) (v .from-year) n);
+      time = shifted-is (timeIn f) (negℤ (m .0)) p;
       year = shifted-year (timeIn f) (negℤ (m .0)) p (v .from-year) (v .to-year) n;
       second = refl;
       precision = refl;

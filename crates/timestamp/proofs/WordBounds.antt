@@ -8,7 +8,7 @@ use Rattle.ion.specs.Pair.Layout.{fieldAt}
 use Rattle.ion.specs.Pair.Word.{fieldsOf}
 use Rattle.packed.proofs.Limits.{Limited, limited, Fits, beyond, beyond-within, within-beyond}
 use Rattle.packed.proofs.Words.{unpacked}
-use Rattle.timestamp.proofs.Decides.{Decides, le-decides, lt-decides, eq-decides, _and_}
+use Rattle.places.proofs.Decides.{Decides, le-decides, lt-decides, eq-decides, _and_}
 use Rattle.timestamp.proofs.FieldTests.{Bounds}
 
 -- hour, second and digits

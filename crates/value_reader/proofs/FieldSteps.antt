@@ -18,7 +18,7 @@ use Rattle.ion.specs.declared.Body.{Body}
 use Rattle.ion.specs.declared.VarUIntRead.{VarUIntRead}
 use Rattle.ion.specs.declared.VarUIntRead.the-variants as uint
 use Rattle.ion.specs.declared.offset.Offset.{Offset}
-use Rattle.timestamp.proofs.Decides.{lt-decides, _and_}
+use Rattle.places.proofs.Decides.{lt-decides, _and_}
 use Rattle.value_reader.specs.Parsed.{FieldsAre}
 use Rattle.value_reader.specs.declared.decoder.FieldsRead.{FieldsRead}
 use Rattle.value_reader.proofs.DecodeBack.{field-next}

@@ -46,7 +46,7 @@ local-is Unknown u w t e y =
 local-is (Known m) u w t e y =
     let room = moved-room (timeIn u) (m .0) t w y in
     record {
-      time = shifted-is (timeIn u) (m .0) t room;
+      time = shifted-is (timeIn u) (m .0) t;
       second = refl;
       precision = refl;
       digits = refl;

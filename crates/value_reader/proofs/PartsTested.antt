@@ -12,7 +12,7 @@ use Rattle.ion.specs.declared.Body.{Body}
 use Rattle.ion.specs.declared.offset.Offset.{Offset}
 use Rattle.ion.specs.declared.offset.Offset.the-variants.{Unknown, Known}
 use Rattle.calendar.proofs.Dates.{is-date, date-is}
-use Rattle.timestamp.proofs.Decides.{Decides, le-decides, lt-decides, then-decides, _and_}
+use Rattle.places.proofs.Decides.{Decides, le-decides, lt-decides, then-decides, _and_}
 use Rattle.value_reader.specs.BodyParts.{UtcInBounds, offsetFits}
 
 -- ---- the tests

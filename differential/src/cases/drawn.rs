@@ -10,7 +10,7 @@ use crate::random::Random;
 
 pub fn sections<'a, C: Cases + 'a>(options: Options) -> Vec<Section<'a, C>> {
     type Draw<C> = fn(&mut C, &mut Random);
-    let draws: [(&'static str, Draw<C>); 15] = [
+    let draws: [(&'static str, Draw<C>); 16] = [
         ("field sets", field_sets),
         ("pairs and changed pairs", pairs),
         ("two pairs far apart", far_apart),
@@ -26,6 +26,7 @@ pub fn sections<'a, C: Cases + 'a>(options: Options) -> Vec<Section<'a, C>> {
         ("scans and damaged scans", scans),
         ("drawn scans written", scans_written),
         ("files and damaged files", files),
+        ("any months", any_months),
     ];
     let section = |(place, (name, draw)): (usize, (&'static str, Draw<C>))| -> Section<'a, C> {
         let all = move |cases: &mut C| {
@@ -158,6 +159,14 @@ fn files(cases: &mut impl Cases, random: &mut Random) {
     let damaged = damage::scans(random, &file);
     cases.file(&damaged);
     cases.file(&damage::scans(random, &damaged));
+}
+
+fn any_months(cases: &mut impl Cases, random: &mut Random) {
+    let first = random.pick(&[0, 0, 0, 9_999]);
+    let year = random.between(first, 10_002) as u32;
+    cases.month_length(year, random.below(15) as u32);
+    cases.month_length(year, random.any_size() as u32);
+    cases.month_length(random.any_size() as u32, random.below(15) as u32);
 }
 
 /// A pair of the year 1 or 9999, or of its neighbour; most of their offsets leave the years' range.

@@ -16,6 +16,7 @@ pub fn sections<'a, C: Cases + 'a>() -> Vec<Section<'a, C>> {
         ("every value of every packed field", Box::new(packed_fields)),
         ("short bodies", Box::new(short_bodies)),
         ("numbers of every length", Box::new(number_lengths)),
+        ("every month's length", Box::new(month_lengths)),
     ]
 }
 
@@ -293,6 +294,24 @@ fn number_lengths(cases: &mut impl Cases) {
                     }
                 }
             }
+        }
+    }
+}
+
+/// Every month of every year that the Rust can be asked for; of the years to 10001 also months 0, 13 and more; and years
+/// and months that would be others in fewer bits.
+fn month_lengths(cases: &mut impl Cases) {
+    const NO_MONTHS: [u32; 10] = [0, 13, 14, 15, 16, 128, 255, 256, 268, u32::MAX];
+    for year in 0..=u16::MAX as u32 {
+        (1..=12).for_each(|month| cases.month_length(year, month));
+        if year <= 10_001 {
+            NO_MONTHS.into_iter().for_each(|month| cases.month_length(year, month));
+        }
+    }
+    let others = (1..=12).chain(NO_MONTHS).chain([257, 65_537, 1 << 31, (1 << 24) + 2, u32::MAX - 1]);
+    for month in others {
+        for year in [0, 1900, 2000, 65_536, 67_536, (1 << 24) + 4, 1 << 31, u32::MAX - 1, u32::MAX] {
+            cases.month_length(year, month);
         }
     }
 }

@@ -33,6 +33,7 @@ pub trait Cases {
     fn var_int(&mut self, value: i64);
     fn zero_padded(&mut self, value: u64, width: usize);
     fn shift(&mut self, time: DateTime, offset: i32);
+    fn month_length(&mut self, year: u32, month: u32);
 
     /// Building, and the pair that comes of it.
     fn build_and_use(&mut self, build: &Build) {

@@ -222,6 +222,24 @@ impl<L: Library> Cases for Run<'_, L> {
         let case = || format!("{time:?} by {offset}");
         self.judge_offered("add_offset_to_utc", case, expected, answer);
     }
+
+    fn month_length(&mut self, year: u32, month: u32) {
+        self.case();
+        let rust = oracle::days_in_month(year, month);
+        let expected = if differences::no_month_length(year, month) {
+            if rust.is_some_and(|rust| rust != Answer::Accepted(0)) {
+                self.meets(Listed::NoMonthLength);
+            }
+            Ok(0)
+        } else {
+            match rust {
+                Some(Answer::Accepted(days)) => Ok(days),
+                other => Err(format!("{other:?}")),
+            }
+        };
+        let answer = self.library.days_in_month(year, month);
+        self.judge("days_in_month", || format!("month {month} of year {year}"), expected, answer);
+    }
 }
 
 /// A writer's answer, and what it leaves in a buffer of that many bytes: the output from a place on, among the old

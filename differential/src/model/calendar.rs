@@ -21,6 +21,14 @@ pub fn month_length(year: u32, month: u32) -> u32 {
     }
 }
 
+/// What a date picker is told: 0 past year 10000 too.
+pub fn days_in_month(year: u32, month: u32) -> u32 {
+    match year {
+        0..=LAST_YEAR => month_length(year, month),
+        _ => 0,
+    }
+}
+
 pub fn is_day(year: u32, month: u32, day: u32) -> bool {
     1 <= day && day <= month_length(year, month)
 }

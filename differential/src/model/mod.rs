@@ -213,6 +213,10 @@ impl Library for Model {
     fn add_offset_to_utc(&self, time: DateTime, offset: i32) -> Option<DateTime> {
         calendar::shifted(time, offset)
     }
+
+    fn days_in_month(&self, year: u32, month: u32) -> u32 {
+        calendar::days_in_month(year, month)
+    }
 }
 
 /// The fields in UTC beside the offset, as a value's body has them.

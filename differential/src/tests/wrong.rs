@@ -42,6 +42,9 @@ enum Fault {
     NeverWider,
     NeverPadded,
     NoDayMoved,
+    /// Month lengths with one for month 13, or for year 10001.
+    ThirteenMonths,
+    OneYearMore,
     /// A reader of texts that leaves what follows.
     ReadsABeginning,
     /// One that takes -00:00 for a known offset.
@@ -74,7 +77,7 @@ enum Fault {
     LeavesTheDamage,
 }
 
-const ALL: [Fault; 38] = [
+const ALL: [Fault; 40] = [
     Fault::ReadsNothing,
     Fault::TakesMore,
     Fault::DropsTheSecond,
@@ -98,6 +101,8 @@ const ALL: [Fault; 38] = [
     Fault::NeverWider,
     Fault::NeverPadded,
     Fault::NoDayMoved,
+    Fault::ThirteenMonths,
+    Fault::OneYearMore,
     Fault::ReadsABeginning,
     Fault::ReadsUnknownAsZero,
     Fault::FewDigitsOnly,
@@ -329,6 +334,14 @@ impl Library for Wrong {
             Fault::NoDayMoved => DateTime { day: time.day, ..moved },
             _ => moved,
         })
+    }
+
+    fn days_in_month(&self, year: u32, month: u32) -> u32 {
+        match (self.0, year, month) {
+            (Fault::ThirteenMonths, _, 13) => Model.days_in_month(year, 1),
+            (Fault::OneYearMore, 10_001, _) => Model.days_in_month(1, month),
+            _ => Model.days_in_month(year, month),
+        }
     }
 }
 

@@ -6,9 +6,9 @@
 //! timestamps that were checked before, and only works.
 //!
 //! Inputs: 1024 field sets that are accepted, drawn from a seed, their pairs, and for each pair one close to it; 1024
-//! numbers of each of three kinds, with the widths to which they are padded. They are passed over many times, so that
-//! they are in the cache. Writers write into one buffer of 64 bytes, which is never cleared: it holds what the call
-//! before wrote, and is in the cache.
+//! numbers of each of three kinds, with the widths to which they are padded; 1024 months. They are passed over many
+//! times, so that they are in the cache. Writers write into one buffer of 64 bytes, which is never cleared: it holds
+//! what the call before wrote, and is in the cache.
 
 pub(crate) mod scans;
 
@@ -19,6 +19,7 @@ use crate::oracle::{self, Answer};
 use crate::plain_reader;
 use crate::random::Random;
 use crate::text::text_formatter;
+use crate::types::timestamp::opened;
 use crate::Timestamp;
 use std::fmt;
 use std::hint::black_box;
@@ -37,6 +38,8 @@ struct Inputs {
     values: Vec<Vec<u8>>,
     texts: Vec<Vec<u8>>,
     numbers: Numbers,
+    /// Years from 0 to 9999, and their months.
+    months: Vec<(u32, u32)>,
 }
 
 /// Numbers and the widths to which they are padded.
@@ -92,6 +95,7 @@ fn inputs(seed: u64) -> Inputs {
         values: pairs.iter().map(|pair| written(oracle::value(*pair))).collect(),
         texts: pairs.iter().map(|pair| written(oracle::text(*pair))).collect(),
         numbers: numbers(&mut random),
+        months: (0..INPUTS).map(|_| (random.below(10_000) as u32, 1 + random.below(12) as u32)).collect(),
         builds,
         pairs,
         near,
@@ -155,6 +159,14 @@ fn write_padded((value, width): (u64, usize), buffer: &mut [u8]) -> usize {
     lent.at
 }
 
+/// The Rust's length of a month that there is, as a picker would ask it.
+fn month_length((year, month): (u32, u32)) -> u32 {
+    match year <= 10_000 && (1..=12).contains(&month) {
+        true => opened::days_in_month(year as u16, month as u8) as u32,
+        false => 0,
+    }
+}
+
 fn write_value(stamp: &Timestamp, mut buffer: &mut [u8]) -> usize {
     buffer.encode_timestamp_value(stamp).expect("64 bytes are enough")
 }
@@ -216,6 +228,7 @@ pub fn run<L: Library>(library: &L, seed: u64) {
 fn rows<'a, L: Library>(library: &'a L, inputs: &'a Inputs) -> Vec<Row<'a>> {
     let (builds, pairs, near) = (&inputs.builds, &inputs.pairs, &inputs.near);
     let (stamps, near_stamps, values, texts) = (&inputs.stamps, &inputs.near_stamps, &inputs.values, &inputs.texts);
+    let months = &inputs.months;
     let padded = |name, numbers: &'a [(u64, usize)]| {
         Row::new(
             name,
@@ -291,5 +304,13 @@ fn rows<'a, L: Library>(library: &'a L, inputs: &'a Inputs) -> Vec<Row<'a>> {
         padded("padded field", &inputs.numbers.fields),
         padded("padded count", &inputs.numbers.counts),
         padded("padded any", &inputs.numbers.any),
+        Row::new(
+            "days in month",
+            [
+                timed(|at| month_length(months[at])),
+                timed(|at| opened::days_in_month(months[at].0 as u16, months[at].1 as u8)),
+                timed(|at| library.days_in_month(months[at].0, months[at].1)),
+            ],
+        ),
     ]
 }

@@ -73,6 +73,9 @@ prevDay t =
     (cond (ltb 1 (t .month)) (record { year = t .year; month = t .month - 1; day = monthLength (t .year) (t .month - 1) })
     (record { year = t .year - 1; month = 12; day = 31 }))
 
--- what the date picker is told: 0 for a year above 10000 too
-abbrev pub daysInMonth : ℕ → ℕ → ℕ
-daysInMonth y m = cond (ltb 10000 y) 0 (monthLength y m)
+abbrev pub isMonth : ℕ → Bool
+isMonth m = leb 1 m && leb m 12
+
+-- what a date picker is told: 0 for a month outside 1 to 12, or a year above 10000
+unfoldable pub daysInMonth : ℕ → ℕ → ℕ
+daysInMonth y m = cond (isMonth m && leb y 10000) (monthLength y m) 0

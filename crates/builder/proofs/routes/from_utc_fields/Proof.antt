@@ -10,8 +10,7 @@ use Rattle.ion.specs.Calls.Build.{isYear, isDay, givenTime, movedTime, packedOf
 use Rattle.ion.specs.declared.DateTime.{DateTime}
 use Rattle.ion.specs.declared.offset.Offset.the-variants.{Known}
 use Rattle.calendar.proofs.Shifts.{shifted-is}
-use Rattle.calendar.proofs.FirstDay.{moved-room}
-use Rattle.builder.proofs.Bounds.{year-is}
+use Rattle.builder.proofs.Bounds.{year-decides}
 use Rattle.builder.proofs.Times.{time-is, time-in-range}
 use Rattle.builder.proofs.routes.from_utc_fields.Statement.{statement}
 use Rattle.builder.proofs.routes.from_utc_fields.Tie as tie
@@ -70,8 +69,8 @@ finish-requires c κs =
     let m = s .args .m in
     let b = s .pre .0 in
     let g = time-is f b (day e1) in
-    let y = year-is (movedTime f m .year) (year c) in
-    let p = shifted-is (givenTime f) (m .0) g (moved-room (givenTime f) (m .0) g (s .pre .1) (y .0)) in (
+    let y = year-decides (movedTime f m .year) .0 (year c) in
+    let p = shifted-is (givenTime f) (m .0) g in (
       s .pre .1,
       subst (λ (t : DateTime). InRange (packedOf f t (Known m))) (sym (local a))
           (time-in-range f (movedTime f m) (Known m) b p (omega (arith, y .1)) (s .pre .1)),

@@ -4,8 +4,12 @@ use native.Mathlib.Omega.{arith}
 use borrow.Author.Needs.{needs}
 use borrow.Author.Tests.{lt-ltb, le-ltb}
 use Rattle.ion.specs.Calendar.Dates.{monthLength}
+use Rattle.calendar.proofs.Dates.{month-low, month-of}
 use Rattle.calendar.proofs.day.next_day.Statement.{statement}
 use Rattle.calendar.proofs.day.next_day.Tie as tie
+
+month-length-requires : tie.Need-month-length-requires
+month-length-requires c κs = let p = c .pre .1 in (month-low (c .args .date) p, month-of (c .args .date) p)
 
 returns : tie.Need-returns
 returns c =
@@ -29,4 +33,4 @@ returns-3 c =
 
 pub next-day-spec : {M : Type 1} → statement M
 next-day-spec =
-    tie.close (tie.spec (λ c κs. search needs) (λ c. search needs) returns (λ c. search needs) returns-2 (λ c. search needs) returns-3)
+    tie.close (tie.spec month-length-requires (λ c. search needs) returns (λ c. search needs) returns-2 (λ c. search needs) returns-3)

@@ -4,11 +4,17 @@ use Prim.Native.Nat.{_<_, _≤_}
 use native.Mathlib.Omega.{arith}
 use borrow.Author.Needs.{needs}
 use borrow.Author.Tests.{lt-ltb, le-ltb}
+use Rattle.calendar.proofs.Dates.{month-of}
 use Rattle.calendar.proofs.day.prev_day.Statement.{statement}
 use Rattle.calendar.proofs.day.prev_day.Tie as tie
 
 returns : tie.Need-returns
 returns c = simp (lt-ltb _ _ (c .before .if1 .taken))
+
+month-length-requires : tie.Need-month-length-requires
+month-length-requires c κs =
+    let s = c .before .before .before .before .before in
+    (omega arith, omega (arith, month-of (s .args .date) (s .pre .1)))
 
 returns-2 : tie.Need-returns-2
 returns-2 c =
@@ -35,5 +41,5 @@ returns-4 c =
 pub prev-day-spec : {M : Type 1} → statement M
 prev-day-spec =
     tie.close
-    (tie.spec (λ c. search needs) returns (λ c. search needs) (λ c κs. search needs) (λ c. search needs) returns-2 returns-3
+    (tie.spec (λ c. search needs) returns (λ c. search needs) month-length-requires (λ c. search needs) returns-2 returns-3
     (λ c. search needs) returns-4)

@@ -5,7 +5,7 @@ use Prim.Native.Nat.{_*_, _^_, _<_}
 use lib.Dec.{leb, ltb}
 use borrow.Author.Needs.{needs}
 use Rattle.ion.specs.Pair.Word.{fieldsOf}
-use Rattle.timestamp.proofs.Decides.{decides-same}
+use Rattle.places.proofs.Decides.{decides-same}
 use Rattle.timestamp.proofs.FieldTests.{boundsTest, bounds-decides}
 use Rattle.timestamp.proofs.WordBounds.{wordTest, word-decides}
 use Rattle.timestamp.proofs.accepted.in_bounds.Statement.{statement}

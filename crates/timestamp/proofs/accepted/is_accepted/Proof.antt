@@ -5,7 +5,7 @@ use lib.Dec.{eqb}
 use borrow.Author.Needs.{needs}
 use Rattle.ion.specs.Pair.Pair.{wordIn}
 use Rattle.ion.specs.Calls.Check.{checkOf}
-use Rattle.timestamp.proofs.Decides.{decides-same}
+use Rattle.places.proofs.Decides.{decides-same}
 use Rattle.timestamp.proofs.FieldTests.{accepted-decides, reserved-refused}
 use Rattle.timestamp.proofs.accepted.is_accepted.Statement.{statement}
 use Rattle.timestamp.proofs.accepted.is_accepted.Tie as tie

@@ -10,7 +10,7 @@ use Rattle.ion.specs.Pair.Word.{fieldsOf}
 use Rattle.ion.specs.Pair.Fraction.{scale}
 use Rattle.ion.specs.Calls.Accepted.{Valid, dateIn}
 use Rattle.ion.specs.declared.Fields.{Fields}
-use Rattle.timestamp.proofs.Decides.{Decides}
+use Rattle.places.proofs.Decides.{Decides}
 use Rattle.timestamp.proofs.FieldTests.{boundsTest, firstTest, validTest, valid-decides}
 use Rattle.timestamp.proofs.accepted.is_valid.Statement.{statement}
 use Rattle.timestamp.proofs.accepted.is_valid.Tie as tie

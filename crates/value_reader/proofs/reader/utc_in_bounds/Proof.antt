@@ -4,7 +4,7 @@ use mathlib.Core.Path.{_≡_, subst}
 use mathlib.Core.Bool.{Bool}
 use native.Mathlib.Omega.{arith}
 use Rattle.ion.specs.declared.Body.{Body}
-use Rattle.timestamp.proofs.Decides.{Decides}
+use Rattle.places.proofs.Decides.{Decides}
 use Rattle.value_reader.specs.BodyParts.{UtcInBounds}
 use Rattle.value_reader.proofs.PartsTested.{partsTest, parts-decides}
 use Rattle.value_reader.proofs.reader.utc_in_bounds.Statement.{statement}

@@ -7,8 +7,8 @@ use Rattle.ion.specs.Calendar.Dates.{IsDate, isDate}
 use Rattle.ion.specs.Calendar.Shift.{IsDateTime, dateOf}
 use Rattle.ion.specs.declared.DateTime.{DateTime}
 use Rattle.calendar.proofs.Dates.{is-date, date-is}
-use Rattle.timestamp.proofs.Decides.{Decides, le-decides, lt-decides, _and_}
-use Rattle.test_exports.specs.Shifting.{isMovable}
+use Rattle.places.proofs.Decides.{Decides, le-decides, lt-decides, _and_}
+use Rattle.test_calendar_exports.specs.Shifting.{isMovable}
 
 pub movable : (t : DateTime) (z : ℤ) → isMovable t z ≡ true → (t .year ≤ 10000) × IsDateTime t × (natAbs z < 1440)
 movable t z e =

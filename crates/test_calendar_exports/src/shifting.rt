@@ -3,7 +3,7 @@ use ion::Date;
 use ion::DateTime;
 use ion::offset::OffsetMinutes;
 ghost use mathlib.Core.Path.{_≡_};
-ghost use Rattle.test_exports.specs.Shifting.{dateTime, isMovable, movedBy, MovedIs};
+ghost use Rattle.test_calendar_exports.specs.Shifting.{dateTime, isMovable, movedBy, MovedIs};
 
 // The number of a shift of no date and time of the years 0 to 10000, or by minutes of no offset: of tests alone.
 const NOT_MOVABLE: u32 = 102;

@@ -9,7 +9,7 @@ use Rattle.ion.specs.Calendar.Dates.{isDate}
 use Rattle.ion.specs.Pair.Offset.{isOffset}
 use Rattle.ion.specs.Calendar.Shift.{dateOf, shifted}
 use Rattle.ion.specs.declared.DateTime.{DateTime}
-use Rattle.test_exports.specs.declared.shifting.Moved.{Moved}
+use Rattle.test_calendar_exports.specs.declared.shifting.Moved.{Moved}
 
 -- the number of a shift of no date and time of the years 0 to 10000, or by minutes of no offset: of tests alone, and above all of the
 -- table's

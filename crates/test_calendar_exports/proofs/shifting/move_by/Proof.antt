@@ -1,13 +1,13 @@
--- `test_exports::shifting::move_by` meets its contract. Assumes nothing.
+-- `test_calendar_exports::shifting::move_by` meets its contract. Assumes nothing.
 use mathlib.Core.Path.{_≡_, sym, ap, _∙_}
 use mathlib.Core.Bool.{true, false}
 use borrow.Author.Tests.{not-true, not-false}
 use borrow.Author.Needs.{needs}
 use Rattle.ion.specs.declared.DateTime.{DateTime}
-use Rattle.test_exports.specs.Shifting.{isMovable, movedBy}
-use Rattle.test_exports.proofs.Movable.{movable}
-use Rattle.test_exports.proofs.shifting.move_by.Statement.{statement}
-use Rattle.test_exports.proofs.shifting.move_by.Tie as tie
+use Rattle.test_calendar_exports.specs.Shifting.{isMovable, movedBy}
+use Rattle.test_calendar_exports.proofs.Movable.{movable}
+use Rattle.test_calendar_exports.proofs.shifting.move_by.Statement.{statement}
+use Rattle.test_calendar_exports.proofs.shifting.move_by.Tie as tie
 
 returns : tie.Need-returns
 unfolding movedBy

@@ -1,15 +1,16 @@
 // Scans written and read, and files of them checked.
-use crate::answers::pair;
 use crate::answers::store_file;
 use crate::answers::store_scan;
-use crate::answers::store_written;
 use scans::Scan;
+use test_exports::pair;
+use test_exports::store_written;
 ghost use mathlib.Core.Path.{_≡_};
 ghost use Rattle.ion.specs.Pair.Pair.{packedPair};
 ghost use Rattle.ion.specs.Calls.Output.{putAfter, wroteAfter};
 ghost use Rattle.scans.specs.Scan.{scanOf, scanBytes, scanNumber, readScan};
 ghost use Rattle.scans.specs.File.{checkFileOf};
-ghost use Rattle.test_exports.specs.Answers.{WrittenIs, ScanIs, FileIs};
+ghost use Rattle.test_exports.specs.Answers.{WrittenIs};
+ghost use Rattle.test_scan_exports.specs.Answers.{ScanIs, FileIs};
 
 #[no_mangle]
 pub extern "C" fn scan_read(

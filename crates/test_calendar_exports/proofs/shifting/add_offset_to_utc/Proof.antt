@@ -1,8 +1,8 @@
--- `test_exports::shifting::add_offset_to_utc` meets its contract. Assumes nothing.
+-- `test_calendar_exports::shifting::add_offset_to_utc` meets its contract. Assumes nothing.
 use mir.Facts.{toZ-ofZ}
 use borrow.Author.Needs.{needs}
-use Rattle.test_exports.proofs.shifting.add_offset_to_utc.Statement.{statement}
-use Rattle.test_exports.proofs.shifting.add_offset_to_utc.Tie as tie
+use Rattle.test_calendar_exports.proofs.shifting.add_offset_to_utc.Statement.{statement}
+use Rattle.test_calendar_exports.proofs.shifting.add_offset_to_utc.Tie as tie
 
 returns : tie.Need-returns
 returns c =

@@ -1,7 +1,7 @@
--- `test_exports::scanning::scan_write` meets its contract. Assumes nothing.
+-- `test_scan_exports::scanning::scan_write` meets its contract. Assumes nothing.
 use borrow.Author.Needs.{needs}
-use Rattle.test_exports.proofs.scanning.scan_write.Statement.{statement}
-use Rattle.test_exports.proofs.scanning.scan_write.Tie as tie
+use Rattle.test_scan_exports.proofs.scanning.scan_write.Statement.{statement}
+use Rattle.test_scan_exports.proofs.scanning.scan_write.Tie as tie
 
 returns : tie.Need-returns
 returns c =

@@ -1,7 +1,7 @@
--- `test_exports::scanning::file_check` meets its contract. Assumes nothing.
+-- `test_scan_exports::scanning::file_check` meets its contract. Assumes nothing.
 use borrow.Author.Needs.{needs}
-use Rattle.test_exports.proofs.scanning.file_check.Statement.{statement}
-use Rattle.test_exports.proofs.scanning.file_check.Tie as tie
+use Rattle.test_scan_exports.proofs.scanning.file_check.Statement.{statement}
+use Rattle.test_scan_exports.proofs.scanning.file_check.Tie as tie
 
 pub file-check-spec : {M : Type 1} → statement M
 file-check-spec =

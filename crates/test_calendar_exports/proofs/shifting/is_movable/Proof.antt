@@ -1,7 +1,7 @@
--- `test_exports::shifting::is_movable` meets its contract. Assumes nothing.
+-- `test_calendar_exports::shifting::is_movable` meets its contract. Assumes nothing.
 use borrow.Author.Needs.{needs}
-use Rattle.test_exports.proofs.shifting.is_movable.Statement.{statement}
-use Rattle.test_exports.proofs.shifting.is_movable.Tie as tie
+use Rattle.test_calendar_exports.proofs.shifting.is_movable.Statement.{statement}
+use Rattle.test_calendar_exports.proofs.shifting.is_movable.Tie as tie
 
 pub is-movable-spec : {M : Type 1} → statement M
 is-movable-spec =

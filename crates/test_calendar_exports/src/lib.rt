@@ -1,0 +1,3 @@
+// The calendar's calls as C functions on numbers, for tests.
+mod months;
+mod shifting;
