@@ -1,7 +1,7 @@
 -- Dates: what is a date, the number of one, and the order that the number keeps. Assumes nothing.
 use mathlib.Core.Path.{_≡_, refl, sym}
 use mathlib.Core.Logic.{_⊎_, inl, inr}
-use mathlib.Core.Bool.{true, false, and-true, and-false}
+use mathlib.Core.Bool.{Bool, true, false, _&&_, and-true, and-false}
 use Prim.Native.Nat.{ℕ, _+_, _-_, _≤_, _<_}
 use native.Mathlib.Decide.{decLe, decLt}
 use native.Mathlib.Omega.{arith}
@@ -58,11 +58,15 @@ no-day t e = go (decLe 1 (t .day))
     go (no h) = let l : t .day < 1 = omega arith in simp (lt-leb 1 (t .day) l)
 
 -- up to day 28 every month has it
-pub low-day : (t : Date) → isMonth (t .month) ≡ true → t .day ≤ 28 → leb 1 (t .day) ≡ isDate t
-low-day t e k =
-    let m = month-decides (t .month) .0 e in
-    let l : t .day ≤ days t = omega (arith, month-least (isLeap (t .year)) (t .month) (m .0) (m .1)) in
-    simp (le-leb (t .day) (days t) l, and-true)
+pub low-day : (t : Date) → t .day ≤ 28 → (isMonth (t .month) && leb 1 (t .day)) ≡ isDate t
+low-day t k = go (isMonth (t .month)) refl
+  where
+    go : (b : Bool) → isMonth (t .month) ≡ b → (b && leb 1 (t .day)) ≡ isDate t
+    go true e =
+        let m = month-decides (t .month) .0 e in
+        let l : t .day ≤ days t = omega (arith, month-least (isLeap (t .year)) (t .month) (m .0) (m .1)) in
+        simp (le-leb (t .day) (days t) l, and-true)
+    go false e = sym (no-day t e)
 
 -- every year has a first day
 pub first-day-is : (y : ℕ) → isDate (record { year = y; month = 1; day = 1 }) ≡ true

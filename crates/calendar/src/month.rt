@@ -55,11 +55,11 @@ pub fn is_date(date: Date) -> bool
 {
     let month = date.month;
     let day = date.day;
+    if day <= 28 {
+        return is_month(month) & (1 <= day);
+    }
     if !is_month(month) {
         return false;
-    }
-    if day <= 28 {
-        return 1 <= day;
     }
     day <= month_length(date.year, month)
 }
