@@ -1,13 +1,13 @@
 -- Where a day is wanted, the 0 of `days_in_month` is never met. Assumes nothing.
 use Prim.Native.Nat.{ℕ, _-_, _≤_, _<_}
-use mathlib.Core.Path.{_≡_, refl, sym, _∙_}
-use mathlib.Core.Logic.{_⊎_, inl, inr}
-use mathlib.Core.Bool.{true, false, true≢false, and-false}
+use mathlib.Core.Path.{_≡_}
+use mathlib.Core.Logic.{inl, inr}
+use mathlib.Core.Bool.{and-false}
 use native.Mathlib.Decide.{decLe}
 use native.Mathlib.Omega.{arith}
 use lib.IntN.{negℤ}
 use borrow.Author.Tests.{le-leb, lt-leb}
-use Rattle.ion.specs.Calendar.Dates.{isLeap, isMonth, monthLength, daysInMonth, isDate, IsDate}
+use Rattle.ion.specs.Calendar.Dates.{isLeap, daysInMonth, IsDate}
 use Rattle.ion.specs.Calendar.Shift.{IsDateTime}
 use Rattle.ion.specs.Pair.Offset.{offsetOf}
 use Rattle.ion.specs.Calls.Accepted.{timeIn}
