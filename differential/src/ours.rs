@@ -1,10 +1,11 @@
 //! The proved library: the exported calls of its crates `test_calendar_exports`, `test_exports` and `test_scan_exports`,
 //! each made an archive by `rt staticlib` and linked under the feature `ours`.
 //!
-//! Every call returns the scope's number. Everything else that it answers comes back through references, which a
-//! refusal sets to 0; a byte slice is a pointer and a length. The numbers above 100 are the exported calls' own, for
-//! codes that stand for nothing and for a shift of what is no date and time. Nothing checks these declarations against
-//! the library's own (in these crates' src), so they stand in this one place.
+//! Every call returns the scope's number, but for `days_in_month`, which refuses nothing and returns its answer.
+//! Everything else that a call answers comes back through references, which a refusal sets to 0; a byte slice is a
+//! pointer and a length. The numbers above 100 are the exported calls' own, for codes that stand for nothing and for a
+//! shift of what is no date and time. Nothing checks these declarations against the library's own (in these crates'
+//! src), so they stand in this one place.
 
 use crate::calls::*;
 
