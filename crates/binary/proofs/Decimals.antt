@@ -25,9 +25,9 @@ module _ (c : ℕ) (e : ℤ) {m : ℕ} (size : m ≡ nat_abs e) where
   unfolding decimalBytes
   decimal-some h = rw (← size, h)
 
-  pub length_some : (eqb c 0 && eqb m 0) ≡ false → length (decimalBytes c e) ≡ signedCount m + intCount c
+  pub length-some : (eqb c 0 && eqb m 0) ≡ false → length (decimalBytes c e) ≡ signedCount m + intCount c
   unfolding varint
-  length_some h =
+  length-some h =
       ap length (decimal-some h)
       ∙ omega (arith, length-append (varint e) (int c), length-signed (isNegative e) (nat_abs e), length-int c, ap signedCount size)
 

@@ -11,10 +11,10 @@ use borrow.Author.Tests.{le-leb, lt-leb, ltb-true, ltb-false, leb-true, leb-fals
 use lib.Dec.{leb, ltb, lit<}
 use lib.ListN.{length, take, drop}
 use Rattle.places.specs.Places.{plain, placesOn, valueFrom}
-use Rattle.places.proofs.Laws.{places-append, places-add, value_on}
-use Rattle.places.proofs.Below.{Below, below_none, below-cons}
+use Rattle.places.proofs.Laws.{places-append, places-add, value-on}
+use Rattle.places.proofs.Below.{Below, below-none, below-cons}
 use Rattle.places.proofs.Values.{place-more}
-use Rattle.ion.specs.Numbers.VarUInt.{groups, up_to, scanFrom}
+use Rattle.ion.specs.Numbers.VarUInt.{groups, upTo, scanFrom}
 use Rattle.ion.specs.declared.VarUIntRead.TheVariants.{Value, Cut, Bad}
 
 -- ---- the groups are the places of base 128, of which the last is marked
@@ -53,7 +53,7 @@ pub value-groups : (n m : ℕ) → m < 128 ^ n → valueFrom 128 group 0 (groups
 unfolding groups valueFrom
 value-groups zero m h = omega (arith, pow-zero 128)
 value-groups (suc n) m h =
-    value_on 128 (lit< tt) plain group (λ d l. mod-eq_of_lt l) n (m / 128) ((128 + m % 128) ∷ []) (omega (arith, pow-suc 128 n))
+    value-on 128 (lit< tt) plain group (λ d l. mod-eq_of_lt l) n (m / 128) ((128 + m % 128) ∷ []) (omega (arith, pow-suc 128 n))
     ∙ omega arith
 
 -- ---- a scan, byte by byte; w is the value with the byte's group
@@ -62,7 +62,7 @@ pub scan-more : (l n v k b w : ℕ) (r : List ℕ) → b < 128 → v * 128 + b %
 unfolding scanFrom
 scan-more l n v k b w r h e = rw (e, lt-leb 128 b h)
 
-pub scan-last : (l n v k b w : ℕ) (r : List ℕ) → 128 ≤ b → v * 128 + b % 128 ≡ w → scanFrom l (suc n) v k (b ∷ r) ≡ up_to l w (k + 1)
+pub scan-last : (l n v k b w : ℕ) (r : List ℕ) → 128 ≤ b → v * 128 + b % 128 ≡ w → scanFrom l (suc n) v k (b ∷ r) ≡ upTo l w (k + 1)
 unfolding scanFrom
 scan-last l n v k b w r h e = rw (e, le-leb 128 b h)
 
@@ -80,7 +80,7 @@ scan-cut l (suc n) v k (c ∷ r) h b = rw (lt-leb 128 c (b 0)) (scan-cut l n (v 
 pub cut-scan : (l n v k : ℕ) (s : List ℕ) → scanFrom l n v k s ≡ Cut → (length s < n) × Below 128 s
 unfolding scanFrom
 cut-scan l zero v k s e = absurd (let z : ◌≡◌ {A = ℕ} 0 1 = cc in omega arith)
-cut-scan l (suc n) v k [] e = (omega arith, below_none 128 (lit< tt))
+cut-scan l (suc n) v k [] e = (omega arith, below-none 128 (lit< tt))
 cut-scan l (suc n) v k (c ∷ r) e = go (cut-scan l n w (k + 1) r) (leb 128 c) (ltb l w) refl e
   where
     w : ℕ
@@ -106,7 +106,7 @@ scan-on l (suc n) c q t h =
     ∙ ap (λ (k : ℕ). scanFrom l c q k t) (add-one n))
 
 -- n groups are read back as their number, whatever follows them, by a scan that takes as many bytes or more
-pub scan-groups : (l k n m : ℕ) (r : List ℕ) → 0 < n → n ≤ k → m < 128 ^ n → scanFrom l k 0 0 (groups n m ++ r) ≡ up_to l m n
+pub scan-groups : (l k n m : ℕ) (r : List ℕ) → 0 < n → n ≤ k → m < 128 ^ n → scanFrom l k 0 0 (groups n m ++ r) ≡ upTo l m n
 scan-groups l k zero m r z b h = absurd (omega arith)
 scan-groups l k (suc n) m r z b h =
     let c = k - suc n in
@@ -114,7 +114,7 @@ scan-groups l k (suc n) m r z b h =
     ap₂ (λ (x : ℕ) (s : List ℕ). scanFrom l x 0 0 s) e (groups-append n m r)
     ∙ scan-on l n (suc c) (m / 128) ((128 + m % 128) ∷ r) (omega (arith, pow-suc 128 n))
     ∙ scan-last l c (m / 128) n (128 + m % 128) m r (omega arith) (omega arith)
-    ∙ ap (up_to l m) (add-one n)
+    ∙ ap (upTo l m) (add-one n)
 
 -- ---- what a scan finds: m in j bytes, of which the k first, those of v, stand in front of the bytes s
 
@@ -192,7 +192,7 @@ scan-unmarked l (suc n) v k (c ∷ r) h b =
 
 pub scan-missed : (l n v k : ℕ) (s : List ℕ) → scanFrom l n v k s ≡ Bad → Missed l n v k s
 unfolding scanFrom
-scan-missed l zero v k s e = unmarked (omega arith) (below_none 128 (lit< tt))
+scan-missed l zero v k s e = unmarked (omega arith) (below-none 128 (lit< tt))
 scan-missed l (suc n) v k [] e = absurd (let z : ◌≡◌ {A = ℕ} 0 1 = cc in omega arith)
 scan-missed l (suc n) v k (c ∷ r) e = go (scan-missed l n w (k + 1) r) (leb 128 c) (ltb l w) refl refl e
   where

@@ -11,7 +11,7 @@ use lib.Count.{count_leading_zeros}
 use lib.Dec.{eqb, ltb, lit<}
 use lib.ListN.{length}
 use Rattle.places.specs.Places.{plain, places, placeCount}
-use Rattle.places.proofs.Laws.{length-places, count-zero, count_next, count-holds, count-least, value-places}
+use Rattle.places.proofs.Laws.{length-places, count-zero, count-next, count-holds, count-least, value-places}
 use Rattle.places.proofs.Below.{Below}
 use Rattle.places.proofs.Values.{value-is}
 use Rattle.places.proofs.Bits.{double-zeros}
@@ -49,9 +49,9 @@ pub read-shortest : (s : List ℕ) (m : ℕ) → bigEndian s ≡ m → m < 2 ^ 6
 unfolding readInt
 read-shortest s m e h n = rw (e, lt-ltb m (2 ^ 64) h, eq-eqb (intCount m) (length s) n)
 
-pub read_above : (s : List ℕ) → 2 ^ 64 ≤ bigEndian s → readInt s ≡ Bad
+pub read-above : (s : List ℕ) → 2 ^ 64 ≤ bigEndian s → readInt s ≡ Bad
 unfolding readInt
-read_above s h = rw (le-ltb (bigEndian s) (2 ^ 64) h)
+read-above s h = rw (le-ltb (bigEndian s) (2 ^ 64) h)
 
 pub read-longer : (s : List ℕ) → (intCount (bigEndian s) ≡ length s → ⊥) → readInt s ≡ Bad
 unfolding readInt
@@ -63,10 +63,10 @@ read-long s h = go (dec_lt (bigEndian s) (2 ^ 64))
   where
     go : Dec (bigEndian s < 2 ^ 64) → readInt s ≡ Bad
     go (yes l) = read-longer s (λ e. omega (arith, int-most (bigEndian s) l))
-    go (no l) = read_above s (omega arith)
+    go (no l) = read-above s (omega arith)
 
-pub read_int : (m : ℕ) → m < 2 ^ 64 → readInt (int m) ≡ Value m
-read_int m h = read-shortest (int m) m (value-int m) h (sym (length-int m))
+pub read-int : (m : ℕ) → m < 2 ^ 64 → readInt (int m) ≡ Value m
+read-int m h = read-shortest (int m) m (value-int m) h (sym (length-int m))
 
 pub read-int-is : (s : List ℕ) (m : ℕ) → Below 256 s → readInt s ≡ Value m → (m < 2 ^ 64) × (s ≡ int m)
 unfolding readInt
@@ -92,4 +92,4 @@ int-zero = count-zero 256 (lit< tt)
 
 pub int-zeros : (w m : ℕ) → 0 < m → m < 2 ^ w → intCount m ≡ suc ((w - count_leading_zeros w m) / 8)
 unfolding intCount placeCount
-int-zeros w m p h = count_next 256 (lit< tt) (2 * m) (omega arith) ∙ double-zeros 8 (lit< tt) w m h
+int-zeros w m p h = count-next 256 (lit< tt) (2 * m) (omega arith) ∙ double-zeros 8 (lit< tt) w m h

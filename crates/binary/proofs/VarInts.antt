@@ -62,9 +62,9 @@ pub record SignFree (s : List ℕ) : Type 0 where
   pub below : byte < 192
   free : byte % 128 < 64
 
-free_in : (n m : ℕ) → 2 * m < 128 ^ suc n → SignFree (groups (suc n) m)
-free_in zero m h = record { byte = 128 + m % 128; rest = []; is = groups-one m; below = omega arith; free = omega arith }
-free_in (suc n) m h =
+free-in : (n m : ℕ) → 2 * m < 128 ^ suc n → SignFree (groups (suc n) m)
+free-in zero m h = record { byte = 128 + m % 128; rest = []; is = groups-one m; below = omega arith; free = omega arith }
+free-in (suc n) m h =
     let p = 128 ^ suc n in
     let q : m / p < 64 = (div-lt_iff_lt-mul (one-le-pow (suc n) 128 (lit< tt))).1 (omega (arith, pow-succ' 128 (suc n))) in
     record { byte = m / p % 128; rest = groups (suc n) m; is = groups-more n m; below = omega arith; free = omega arith }
@@ -74,20 +74,20 @@ sign-free m = go (signedCount m) (signed-some m) (signed-held m)
   where
     go : (n : ℕ) → 0 < n → 2 * m < 128 ^ n → SignFree (groups n m)
     go zero z h = absurd (omega arith)
-    go (suc n) z h = free_in n m h
+    go (suc n) z h = free-in n m h
 
 sign-append : (g : Bool) (b : ℕ) (t r : List ℕ) → signFirst g (b ∷ t) ++ r ≡ signFirst g (b ∷ (t ++ r))
 sign-append false b t r = refl
 sign-append true b t r = refl
 
 -- a byte that was given its sign is read as it was, and with that sign
-sign_read : (l : ℕ) (g : Bool) (b : ℕ) (t : List ℕ) → b % 128 < 64
+sign-read : (l : ℕ) (g : Bool) (b : ℕ) (t : List ℕ) → b % 128 < 64
     → readVarInt l (signFirst g (b ∷ t)) ≡ ifShortest g (scanFrom l (signedCount l) 0 0 (b ∷ t))
 unfolding readVarInt
-sign_read l false b t h =
+sign-read l false b t h =
     let e : unsign b ≡ b = omega arith in
     rw (e, lt-leb 64 (b % 128) h)
-sign_read l true b t h =
+sign-read l true b t h =
     let e : unsign (b + 64) ≡ b = omega arith in
     rw (e, le-leb 64 ((b + 64) % 128) (omega arith))
 
@@ -112,7 +112,7 @@ read-signed l g m r h =
     in
     ap (λ (x : List ℕ). readVarInt l (signFirst g x ++ r)) f.is
     ∙ ap (readVarInt l) (sign-append g f.byte f.rest r)
-    ∙ sign_read l g f.byte (f.rest ++ r) f.free
+    ∙ sign-read l g f.byte (f.rest ++ r) f.free
     ∙ ap (λ (x : List ℕ). ifShortest g (scanFrom l (signedCount l) 0 0 (x ++ r))) (sym f.is)
     ∙ ap (ifShortest g) s
     ∙ (rw (eq-eqb n n refl))
@@ -188,9 +188,9 @@ read-signed-is l (c ∷ r) g m j h e =
 
 -- ---- the reader's steps, by the first byte
 
-pub read_none : (l : ℕ) → readVarInt l [] ≡ Cut
+pub read-none : (l : ℕ) → readVarInt l [] ≡ Cut
 unfolding readVarInt
-read_none l = refl
+read-none l = refl
 
 -- the magnitude of a single byte is in its shortest form
 pub read-alone : (l b : ℕ) (r : List ℕ) → 128 ≤ b → b < 256
@@ -209,10 +209,10 @@ read-alone l b r h k =
     go o true = refl
     go o false = rw (eq-eqb (signedCount (b % 64)) 1 o)
 
-pub read_first : (l b : ℕ) (r : List ℕ) → b < 128
+pub read-first : (l b : ℕ) (r : List ℕ) → b < 128
     → readVarInt l (b ∷ r) ≡ ifShortest (leb 64 (b % 128)) (scanFrom l (signedCount l - 1) (b % 64) 1 r)
 unfolding readVarInt
-read_first l b r h =
+read-first l b r h =
     let n = signedCount l - 1 in
     let e : signedCount l ≡ suc n = omega (arith, signed-some l) in
     ap (λ (x : ℕ). ifShortest (leb 64 (b % 128)) (scanFrom l x 0 0 (unsign b ∷ r))) e

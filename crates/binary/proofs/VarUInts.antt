@@ -12,7 +12,7 @@ use lib.Count.{count_leading_zeros}
 use lib.Dec.{eqb, ltb, lit<}
 use lib.ListN.{length, take, drop, length-append}
 use Rattle.places.specs.Places.{placesOn}
-use Rattle.places.proofs.Laws.{held, fewest, place-some, place-monotone, place_is}
+use Rattle.places.proofs.Laws.{held, fewest, place-some, place-monotone, place-is}
 use Rattle.places.proofs.Below.{Below}
 use Rattle.places.proofs.Bits.{zeros-places}
 use Rattle.ion.specs.Numbers.VarUInt.{groups, groupCount, varuint, scanFrom, zeroFirst, readVarUInt}
@@ -46,8 +46,8 @@ pub first-of-two : (a : ℕ) (t : List ℕ) → 0 < length t → zeroFirst (a �
 first-of-two a [] h = absurd (omega arith)
 first-of-two a (b ∷ t) h = refl
 
-first_group : (p m : ℕ) → 0 < p → m < 128 * p → eqb (m / p % 128) 0 ≡ ltb m p
-first_group p m z h = go (dec_lt m p)
+first-group : (p m : ℕ) → 0 < p → m < 128 * p → eqb (m / p % 128) 0 ≡ ltb m p
+first-group p m z h = go (dec_lt m p)
   where
     go : Dec (m < p) → eqb (m / p % 128) 0 ≡ ltb m p
     go (yes l) = rw (lt-ltb m p l, div-eq_of_lt l)
@@ -61,7 +61,7 @@ zero-first n m r h =
     let p = 128 ^ suc n in
     ap (λ (s : List ℕ). zeroFirst (s ++ r)) (groups-more n m)
     ∙ first-of-two (m / p % 128) (groups (suc n) m ++ r) (omega (arith, length-append (groups (suc n) m) r, length-groups (suc n) m))
-    ∙ first_group p m (one-le-pow (suc n) 128 (lit< tt)) (rw (pow-succ' 128 (suc n)) at h)
+    ∙ first-group p m (one-le-pow (suc n) 128 (lit< tt)) (rw (pow-succ' 128 (suc n)) at h)
 
 marked-first : (b : ℕ) (r : List ℕ) → 0 < b → zeroFirst (b ∷ r) ≡ false
 marked-first b [] h = refl
@@ -82,7 +82,7 @@ zero-first-padded (suc (suc n)) m r z h = zero-first n m r h ∙ go (dec_lt m (1
         lt-ltb m (128 ^ suc n) l ∙ sym (lt-ltb (groupCount m) (suc (suc n)) (omega arith))
     go (no l) =
         let b : 128 ^ suc n ≤ m = omega arith in
-        le-ltb m (128 ^ suc n) b ∙ sym (le-ltb (groupCount m) (suc (suc n)) (omega (arith, place_is 128 (lit< tt) (suc n) m b h)))
+        le-ltb m (128 ^ suc n) b ∙ sym (le-ltb (groupCount m) (suc (suc n)) (omega (arith, place-is 128 (lit< tt) (suc n) m b h)))
 
 pub read-padded : (l : ℕ) (s : List ℕ) → zeroFirst s ≡ true → readVarUInt l s ≡ Bad
 unfolding readVarUInt
@@ -150,7 +150,7 @@ read-varuint-is l s m j g e =
 pub data Unreadable (l : ℕ) (s : List ℕ) : Type 0 where
   padded : zeroFirst s ≡ true → Unreadable l s
   endless : groupCount l ≤ length s → Below 128 (take (groupCount l) s) → Unreadable l s
-  too_large : (m j : ℕ) (r : List ℕ) → l < m → 0 < j → j ≤ groupCount l → m < 128 ^ j → s ≡ groups j m ++ r → Unreadable l s
+  too-large : (m j : ℕ) (r : List ℕ) → l < m → 0 < j → j ≤ groupCount l → m < 128 ^ j → s ≡ groups j m ++ r → Unreadable l s
 
 pub read-bad : (l : ℕ) (s : List ℕ) → Unreadable l s → readVarUInt l s ≡ Bad
 unfolding readVarUInt
@@ -163,7 +163,7 @@ read-bad l s u = from u
     from : Unreadable l s → cond (zeroFirst s) Bad (scanFrom l (groupCount l) 0 0 s) ≡ Bad
     from (padded e) = rw e
     from (endless h b) = scanned (scan-unmarked l (groupCount l) 0 0 s h b) (zeroFirst s)
-    from (too_large m j r h z i k e) =
+    from (too-large m j r h z i k e) =
         let found : scanFrom l (groupCount l) 0 0 (groups j m ++ r) ≡ Bad = scan-groups l (groupCount l) j m r z i k ∙ rw (lt-ltb l m h) in
         scanned (ap (scanFrom l (groupCount l) 0 0) e ∙ found) (zeroFirst s)
 
@@ -175,7 +175,7 @@ bad-read l s b e = go (zeroFirst s) refl e
     from (unmarked h c) = endless h c
     from (above m j h i f) =
         let z : j - 0 ≡ j = omega arith in
-        too_large m j (drop j s) h f.some (omega arith) (f.held (lit< tt)) (rw z at (f.bytes b))
+        too-large m j (drop j s) h f.some (omega arith) (f.held (lit< tt)) (rw z at (f.bytes b))
 
     go : (t : Bool) → zeroFirst s ≡ t → cond t Bad (scanFrom l (groupCount l) 0 0 s) ≡ Bad → Unreadable l s
     go true f e = padded f

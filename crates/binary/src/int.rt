@@ -4,7 +4,7 @@ ghost use Rattle.std.specs.Prelude.{◌≡◌, ◌+◌, ◌≤◌, length};
 ghost use Rattle.places.specs.Places.{plain, places};
 ghost use Rattle.ion.specs.Calls.Output.{over, put, wrote, Run};
 ghost use Rattle.ion.specs.Numbers.Int.{intCount, int, readInt};
-ghost use Rattle.ion.specs.Numbers.NumberReads.{intAnswer, int_of};
+ghost use Rattle.ion.specs.Numbers.NumberReads.{intAnswer, intOf};
 
 use ion::{IntRead, Written};
 
@@ -59,7 +59,7 @@ pub fn put_u64(buf: &mut [u8], at: usize, value: u64) -> usize
 // The number whose shortest form is `s`, all of it.
 pub fn read_u64(s: &[u8]) -> IntRead
     ensures value { result ≡ readInt s.now }
-    ensures result_value { intAnswer (length s.now) result ≡ int_of s.now }
+    ensures result_value { intAnswer (length s.now) result ≡ intOf s.now }
 {
     if 9 < s.len() {
         return IntRead::Bad;

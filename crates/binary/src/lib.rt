@@ -1,4 +1,6 @@
 // Numbers of Ion binary, written into lent buffers and read from lent bytes.
+#![tactic(auto)]
+
 pub mod decimal;
 pub mod int;
 pub mod var_int;

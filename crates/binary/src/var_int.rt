@@ -12,7 +12,7 @@ use ion::{VarIntRead, VarUIntRead, Written};
 const SIGN: u8 = 0b0100_0000;
 
 // A number by its sign and its size: negative zero is one of its own.
-#[derive(Drop)]
+#[derive(Clone, Copy)]
 pub struct Parts {
     pub negative: bool,
     pub magnitude: u64,

@@ -1,7 +1,7 @@
 // VarUInt of Ion binary: seven bits a byte, highest group first, bit 0x80 marks the last byte.
 ghost use Rattle.std.specs.Prelude.{◌≡◌, ◌+◌, ◌-◌, ◌*◌, ◌%◌, ◌^◌, ◌≤◌, ◌<◌, length, drop};
 ghost use Rattle.ion.specs.Calls.Output.{over, put, wrote, Run};
-ghost use Rattle.ion.specs.Numbers.VarUInt.{groups, groupCount, varuint, up_to, scanFrom, zeroFirst, readVarUInt};
+ghost use Rattle.ion.specs.Numbers.VarUInt.{groups, groupCount, varuint, upTo, scanFrom, zeroFirst, readVarUInt};
 ghost use Rattle.ion.specs.Numbers.NumberReads.{varUIntAnswer, varUIntOf};
 
 use ion::{VarUIntRead, Written};
@@ -97,7 +97,7 @@ pub(crate) fn read_groups(
 
 // The value of `n` groups, of which `b` is the last and `v` are the others.
 fn last_group(v: u64, b: u8, n: usize, limit: u64) -> VarUIntRead
-    ensures { result ≡ up_to limit (v * 128 + b % 128) n }
+    ensures { result ≡ upTo limit (v * 128 + b % 128) n }
 {
     if limit / 128 < v {
         return VarUIntRead::Bad;

@@ -32,8 +32,8 @@ not-outside Unknown h = refl
 not-outside (FromLocalFields m) h = is-offset m.0 h
 not-outside (FromUtcFields m) h = is-offset m.0 h
 
-pub in_bounds : (f : BuilderFields) → AllPass (rangeChecks f) → InBounds f
-in_bounds f (a, (y, (mo, (d, (h, (mi, (s, (n, (o, e))))))))) =
+pub in-bounds : (f : BuilderFields) → AllPass (rangeChecks f) → InBounds f
+in-bounds f (a, (y, (mo, (d, (h, (mi, (s, (n, (o, e))))))))) =
     record {
       attoseconds = leb-false (10 ^ 18) f.attoseconds a;
       year = ltb-false 9999 f.year y;

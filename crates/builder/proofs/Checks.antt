@@ -5,7 +5,7 @@ use mathlib.Core.List.{List, [], ◌∷◌, ◌++◌}
 use Prim.Native.Nat.{ℕ, ◌≤◌, ◌<◌}
 use native.Mathlib.Omega.{arith}
 use lib.Dec.{T, leb, ltb, leb→le, ltb→lt}
-use Rattle.ion.specs.Calls.Build.{first_of}
+use Rattle.ion.specs.Calls.Build.{firstOf}
 
 -- every check passes
 abbrev pub AllPass : List (Bool × ℕ) → Type 0
@@ -26,29 +26,29 @@ number-within n t =
     split true q t = (tt, t)
     split false q t = absurd t
 
-pub pass-zero : (l : List (Bool × ℕ)) → AllPass l → first_of l ≡ 0
+pub pass-zero : (l : List (Bool × ℕ)) → AllPass l → firstOf l ≡ 0
 pass-zero [] h = refl
 pass-zero ((false, n) ∷ l) h = pass-zero l h.1
 pass-zero ((true, n) ∷ l) h = absurd (let e : ◌≡◌ {A = ℕ} 0 1 = cc in omega arith)
 
-pub zero-pass : (l : List (Bool × ℕ)) → Numbered l → first_of l ≡ 0 → AllPass l
+pub zero-pass : (l : List (Bool × ℕ)) → Numbered l → firstOf l ≡ 0 → AllPass l
 zero-pass [] k e = tt
 zero-pass ((false, n) ∷ l) k e = (refl, zero-pass l k.1 e)
 zero-pass ((true, n) ∷ l) k e = absurd (omega (arith, number-within n k.0))
 
-pub first-most : (l : List (Bool × ℕ)) → Numbered l → first_of l ≤ 11
+pub first-most : (l : List (Bool × ℕ)) → Numbered l → firstOf l ≤ 11
 first-most [] k = omega arith
 first-most ((false, n) ∷ l) k = first-most l k.1
 first-most ((true, n) ∷ l) k = (number-within n k.0).1
 
 -- once all of the first pass, the others are next
-pub pass-next : (l m : List (Bool × ℕ)) → AllPass l → first_of (l ++ m) ≡ first_of m
+pub pass-next : (l m : List (Bool × ℕ)) → AllPass l → firstOf (l ++ m) ≡ firstOf m
 pass-next [] m h = refl
 pass-next ((false, n) ∷ l) m h = pass-next l m h.1
 pass-next ((true, n) ∷ l) m h = absurd (let e : ◌≡◌ {A = ℕ} 0 1 = cc in omega arith)
 
 -- one that fails comes before the others
-pub fail-first : (l m : List (Bool × ℕ)) → (first_of l ≡ 0 → ⊥) → first_of (l ++ m) ≡ first_of l
+pub fail-first : (l m : List (Bool × ℕ)) → (firstOf l ≡ 0 → ⊥) → firstOf (l ++ m) ≡ firstOf l
 fail-first [] m h = absurd (h refl)
 fail-first ((false, n) ∷ l) m h = fail-first l m h
 fail-first ((true, n) ∷ l) m h = refl

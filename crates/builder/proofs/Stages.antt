@@ -62,8 +62,8 @@ to-second o y mo d h mi s a n c =
       multiple = c;
     }
 
-no_fraction : Cut 0 0
-no_fraction h = refl
+no-fraction : Cut 0 0
+no-fraction h = refl
 
 offset-staged : {t : Stage} (f : BuilderFields) (o : BuilderOffset) → Offsets t → At t f → Staged (withOffset f o)
 unfolding At
@@ -73,23 +73,23 @@ offset-staged f o stages.minute e =
     subst (λ (g : BuilderFields). Staged (withOffset g o)) (sym e) (to-minute o f.year f.month f.day f.hour f.minute)
 offset-staged f o stages.seconds e =
     subst (λ (g : BuilderFields). Staged (withOffset g o)) (sym e)
-    (to-second o f.year f.month f.day f.hour f.minute f.second 0 0 no_fraction)
+    (to-second o f.year f.month f.day f.hour f.minute f.second 0 0 no-fraction)
 offset-staged f o stages.fraction (e, c) =
     subst (λ (g : BuilderFields). Staged (withOffset g o)) (sym e)
     (to-second o f.year f.month f.day f.hour f.minute f.second f.attoseconds f.digits c)
 
-at_stage : {t : Stage} {f : BuilderFields} → Gives t f → At t f
+at-stage : {t : Stage} {f : BuilderFields} → Gives t f → At t f
 unfolding At
-at_stage (stages.year y) = refl
-at_stage (stages.month g m) = ap (λ (f : BuilderFields). withMonth f m) (at_stage g)
-at_stage (stages.day g d) = ap (λ (f : BuilderFields). withDay f d) (at_stage g)
-at_stage (stages.hour g h) = ap (λ (f : BuilderFields). withHour f h) (at_stage g)
-at_stage (stages.both g h m) = ap (λ (f : BuilderFields). withHourAndMinute f h m) (at_stage g)
-at_stage (stages.minute g m) = ap (λ (f : BuilderFields). withMinute f m) (at_stage g)
-at_stage (stages.second g s) = ap (λ (f : BuilderFields). withSecond f s) (at_stage g)
-at_stage (stages.fraction {x = x} g k) = (ap (λ (f : BuilderFields). withFraction f x) (at_stage g), multiple k)
-at_stage (stages.local {f = f} o g m) = offset-staged f (FromLocalFields m) o (at_stage g)
-at_stage (stages.utc {f = f} o g m) = offset-staged f (FromUtcFields m) o (at_stage g)
+at-stage (stages.year y) = refl
+at-stage (stages.month g m) = ap (λ (f : BuilderFields). withMonth f m) (at-stage g)
+at-stage (stages.day g d) = ap (λ (f : BuilderFields). withDay f d) (at-stage g)
+at-stage (stages.hour g h) = ap (λ (f : BuilderFields). withHour f h) (at-stage g)
+at-stage (stages.both g h m) = ap (λ (f : BuilderFields). withHourAndMinute f h m) (at-stage g)
+at-stage (stages.minute g m) = ap (λ (f : BuilderFields). withMinute f m) (at-stage g)
+at-stage (stages.second g s) = ap (λ (f : BuilderFields). withSecond f s) (at-stage g)
+at-stage (stages.fraction {x = x} g k) = (ap (λ (f : BuilderFields). withFraction f x) (at-stage g), multiple k)
+at-stage (stages.local {f = f} o g m) = offset-staged f (FromLocalFields m) o (at-stage g)
+at-stage (stages.utc {f = f} o g m) = offset-staged f (FromUtcFields m) o (at-stage g)
 
 to-day : (p : TimestampPrecision) (y mo d : ℕ) → (precisionNumber p < 1 → mo ≡ 1) → (precisionNumber p < 2 → d ≡ 1)
     → Staged (builderFields p Unknown y mo d 0 0 0 0 0)
@@ -114,13 +114,13 @@ staged-at hasDay f e =
 staged-at hasHour f e = subst Staged (sym e) (to-minute Unknown f.year f.month f.day f.hour 0)
 staged-at hasMinute f e = subst Staged (sym e) (to-minute Unknown f.year f.month f.day f.hour f.minute)
 staged-at hasSeconds f e =
-    subst Staged (sym e) (to-second Unknown f.year f.month f.day f.hour f.minute f.second 0 0 no_fraction)
+    subst Staged (sym e) (to-second Unknown f.year f.month f.day f.hour f.minute f.second 0 0 no-fraction)
 staged-at hasFraction f (e, c) =
     subst Staged (sym e) (to-second Unknown f.year f.month f.day f.hour f.minute f.second f.attoseconds f.digits c)
 staged-at hasOffset f s = s
 
 pub gives-staged : {t : Stage} {f : BuilderFields} → Gives t f → Staged f
-gives-staged {t} {f} g = staged-at t f (at_stage g)
+gives-staged {t} {f} g = staged-at t f (at-stage g)
 
 -- ---- what is kept
 

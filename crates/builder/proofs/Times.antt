@@ -26,7 +26,7 @@ use Rattle.calendar.proofs.Dates.{is-date, first-day-is, month-of, day-of}
 use Rattle.calendar.proofs.Shifts.{shifted-is}
 use Rattle.calendar.proofs.FirstDay.{year-zero-back}
 use Rattle.builder.proofs.Checks.{AllPass, zero-pass, pass-left, pass-right}
-use Rattle.builder.proofs.Bounds.{in_bounds, precision-le, bounds-pass, year-decides}
+use Rattle.builder.proofs.Bounds.{in-bounds, precision-le, bounds-pass, year-decides}
 use Rattle.builder.proofs.Routed.{all-numbered, routed, build-routed}
 
 -- fields in bounds with such a calendar day are a date and a time
@@ -57,15 +57,15 @@ pub record IsLocalTime (t : DateTime) : Type 0 where
   pub from-year : 1 ≤ t.year
   pub to-year : t.year ≤ 9999
 
-given_is : (f : BuilderFields) → InBounds f → AllPass (localChecks f) → IsLocalTime (givenTime f)
-given_is f b h =
+given-is : (f : BuilderFields) → InBounds f → AllPass (localChecks f) → IsLocalTime (givenTime f)
+given-is f b h =
     let y = (year-decides f.year).0 (not-false (isYear f.year) h.0) in
     record { time = time-is f b (not-false (isDay f) h.1.0); from-year = y.0; to-year = y.1 }
 
 -- the local time, on either route
 local-is : (f : BuilderFields) (o : BuilderOffset) → InBounds f → AllPass (routeChecks f o) → IsLocalTime (localTime f o)
-local-is f Unknown b h = given_is f b h
-local-is f (FromLocalFields m) b h = given_is f b h
+local-is f Unknown b h = given-is f b h
+local-is f (FromLocalFields m) b h = given-is f b h
 local-is f (FromUtcFields m) b h =
     let p = time-is f b (not-false (isDay f) h.0) in
     let y = (year-decides (movedTime f m).year).0 (not-false (isYear (movedTime f m).year) h.1.0) in
@@ -77,7 +77,7 @@ unfolding buildNumber
 build-local f e =
     let r = routeChecks f f.offset in
     let h = zero-pass (rangeChecks f ++ r) (all-numbered f) e in
-    let i = in_bounds f (pass-left (rangeChecks f) r h) in
+    let i = in-bounds f (pass-left (rangeChecks f) r h) in
     (i, local-is f f.offset i (pass-right (rangeChecks f) r h))
 
 -- fields of UTC year 0 and an offset of n minutes back: the local year is 0 too

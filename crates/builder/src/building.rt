@@ -1,7 +1,7 @@
 // The builder: the checks 1 to 9 in their order, then the route of the fields.
 ghost use Rattle.std.specs.Prelude.{◌≡◌};
 ghost use Rattle.ion.specs.Calls.Accepted.{Staged};
-ghost use Rattle.ion.specs.Calls.Build.{toOffset, isUtc, offsetOutside, first_of, rangeChecks, buildOf};
+ghost use Rattle.ion.specs.Calls.Build.{toOffset, isUtc, offsetOutside, firstOf, rangeChecks, buildOf};
 
 use crate::routes::{from_fields, from_utc_fields};
 use ion::offset::Offset;
@@ -45,7 +45,7 @@ fn is_utc(f: BuilderFields) -> bool
 
 // The checks 1 to 9: the number of the first that fails, or 0.
 fn validate_field_ranges(f: BuilderFields) -> u32
-    ensures { result ≡ first_of (rangeChecks f) }
+    ensures { result ≡ firstOf (rangeChecks f) }
 {
     let attoseconds = f.attoseconds;
     let year = f.year;

@@ -1,5 +1,7 @@
 // The builder. Its stages are a struct for each around the fields given so far, with its setters and `build`:
 // a finer field is given only after the coarser one, a fraction only after the second, an offset last.
+#![tactic(auto)]
+
 mod building;
 mod date;
 mod offset;
@@ -12,42 +14,42 @@ ghost use Rattle.ion.specs.Calls.Stages.{withYear, withMonth, withDay};
 pub use building::build_fields;
 use ion::{BuilderFields, BuilderOffset, TimestampPrecision};
 
-#[derive(Drop)]
+#[derive(Clone, Copy)]
 pub struct HasYear {
     fields: BuilderFields,
 }
 
-#[derive(Drop)]
+#[derive(Clone, Copy)]
 pub struct HasMonth {
     fields: BuilderFields,
 }
 
-#[derive(Drop)]
+#[derive(Clone, Copy)]
 pub struct HasDay {
     fields: BuilderFields,
 }
 
-#[derive(Drop)]
+#[derive(Clone, Copy)]
 pub struct HasHour {
     fields: BuilderFields,
 }
 
-#[derive(Drop)]
+#[derive(Clone, Copy)]
 pub struct HasMinute {
     fields: BuilderFields,
 }
 
-#[derive(Drop)]
+#[derive(Clone, Copy)]
 pub struct HasSeconds {
     fields: BuilderFields,
 }
 
-#[derive(Drop)]
+#[derive(Clone, Copy)]
 pub struct HasFractionalSeconds {
     fields: BuilderFields,
 }
 
-#[derive(Drop)]
+#[derive(Clone, Copy)]
 pub struct HasOffset {
     fields: BuilderFields,
 }

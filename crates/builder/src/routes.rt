@@ -3,7 +3,7 @@ ghost use Rattle.std.specs.Prelude.{◌≡◌};
 ghost use Rattle.ion.specs.Pair.Offset.{WithinDay};
 ghost use Rattle.ion.specs.Pair.Word.{InRange};
 ghost use Rattle.ion.specs.Calls.Build.{precisionNumber, isDay, isYear, givenTime, movedTime};
-ghost use Rattle.ion.specs.Calls.Build.{first_of, localChecks, utcChecks, packedOf, pair_at, acceptedBuild, buildAnswer};
+ghost use Rattle.ion.specs.Calls.Build.{firstOf, localChecks, utcChecks, packedOf, pairAt, acceptedBuild, buildAnswer};
 ghost use Rattle.ion.specs.Calls.Accepted.{InBounds};
 
 use ion::offset::{Offset, OffsetMinutes};
@@ -26,7 +26,7 @@ fn precision_number(p: TimestampPrecision) -> u32
 // The packed pair of the local fields.
 fn finish(f: BuilderFields, local: DateTime, o: Offset) -> Built
     requires { WithinDay o × InRange (packedOf f local o) }
-    ensures { result ≡ acceptedBuild (pair_at f local o) }
+    ensures { result ≡ acceptedBuild (pairAt f local o) }
 {
     let precision = f.precision;
     let fields = Fields {
@@ -83,7 +83,7 @@ fn given_time(f: BuilderFields) -> DateTime
 // From local fields.
 pub(crate) fn from_fields(f: BuilderFields, o: Offset) -> Built
     requires { InBounds f × WithinDay o }
-    ensures { result ≡ buildAnswer (first_of (localChecks f)) (pair_at f (givenTime f) o) }
+    ensures { result ≡ buildAnswer (firstOf (localChecks f)) (pairAt f (givenTime f) o) }
 {
     let year = is_year(f.year);
     let day = is_day(f);
@@ -99,7 +99,7 @@ pub(crate) fn from_fields(f: BuilderFields, o: Offset) -> Built
 // From UTC fields, which an offset moves to local ones.
 pub(crate) fn from_utc_fields(f: BuilderFields, m: OffsetMinutes) -> Built
     requires { InBounds f × WithinDay (Offset.Known m) }
-    ensures { result ≡ buildAnswer (first_of (utcChecks f m)) (pair_at f (movedTime f m) (Offset.Known m)) }
+    ensures { result ≡ buildAnswer (firstOf (utcChecks f m)) (pairAt f (movedTime f m) (Offset.Known m)) }
 {
     if !is_day(f) {
         return Built::refused(refusal::NO_DAY);

@@ -11,7 +11,7 @@ use Rattle.places.proofs.Decides.{Decides, le-decides, ◌and◌}
 use Rattle.ion.specs.Calendar.Dates.{isLeap, monthLengthOf, monthLength, yearLength, sumBelow, monthStart, dayNumber, IsDate, Earlier}
 use Rattle.ion.specs.Calendar.Dates.{isMonth, isDate}
 use Rattle.ion.specs.declared.Date.{Date}
-use Rattle.calendar.proofs.Sums.{sum_past}
+use Rattle.calendar.proofs.Sums.{sum-past}
 use Rattle.calendar.proofs.Years.{leapsBefore, leap-day-le, year-start}
 use Rattle.calendar.proofs.Months.{month-decides, no-month, month-least, month-from-one, month-to-twelve, month-most, months-year}
 
@@ -77,14 +77,14 @@ first-day-is y = refl
 
 -- a date lies in its month, and in its year
 in-month : (t : Date) → IsDate t → {m : ℕ} → t.month < m → monthStart t.year t.month + (t.day - 1) < monthStart t.year m
-in-month t p {m} h = omega (arith, sum_past (monthLengthOf (isLeap t.year)) t.month m h)
+in-month t p {m} h = omega (arith, sum-past (monthLengthOf (isLeap t.year)) t.month m h)
 
 pub in-year : (t : Date) → IsDate t → monthStart t.year t.month + (t.day - 1) < yearLength t.year
 in-year t p = omega (arith, in-month t p {m = 13} (omega (arith, month-of t p)), months-year (isLeap t.year))
 
 -- the number grows strictly with the date
 pub day-number-mono : (s t : Date) → IsDate s → IsDate t → Earlier s t → dayNumber s < dayNumber t
-day-number-mono s t p q (inl l) = omega (arith, in-year s p, sum_past yearLength s.year t.year l)
+day-number-mono s t p q (inl l) = omega (arith, in-year s p, sum-past yearLength s.year t.year l)
 day-number-mono s t p q (inr (e, inl l)) = rw (← e) (omega (arith, in-month s p l))
 day-number-mono s t p q (inr (e, inr (f, l))) = rw (← e, ← f) (omega arith)
 
@@ -124,7 +124,7 @@ day-number-inj s t p q e = go (date-order s t)
 -- from year 1 on there is a year before
 pub after-year-zero : (t : Date) → 1 ≤ t.year → 366 ≤ dayNumber t
 unfolding sumBelow isLeap
-after-year-zero t h = omega (arith, sum_past yearLength 0 t.year h)
+after-year-zero t h = omega (arith, sum-past yearLength 0 t.year h)
 
 -- up to the year 10000
 pub day-number-below : (t : Date) → IsDate t → t.year ≤ 10000 → dayNumber t < 3652791

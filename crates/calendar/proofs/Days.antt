@@ -8,7 +8,7 @@ use lib.Dec.{lit≤}
 use borrow.Author.Tests.{lt-ltb, le-ltb}
 use Rattle.ion.specs.Calendar.Dates.{isLeap, monthLength, yearLength, sumBelow, yearStart, monthStart, dayNumber, IsDate, nextDay, prevDay}
 use Rattle.ion.specs.declared.Date.{Date}
-use Rattle.calendar.proofs.Sums.{sum_more}
+use Rattle.calendar.proofs.Sums.{sum-more}
 use Rattle.calendar.proofs.Months.{month-least, december, january, months-year}
 use Rattle.calendar.proofs.Dates.{month-low, month-of}
 
@@ -27,7 +27,7 @@ next-day t p = go (dec_lt t.day (monthLength t.year t.month)) (dec_lt t.month 12
         let full : monthLength t.year t.month ≤ t.day = omega arith in
         simp (le-ltb _ _ full, lt-ltb _ _ k) (
           record { first = lit≤ tt; last = omega (arith, month-least (isLeap t.year) (t.month + 1) (omega arith) (omega arith)) },
-          omega (arith, sum_more (monthLength t.year) t.month, p.last),
+          omega (arith, sum-more (monthLength t.year) t.month, p.last),
         )
     go (no h) (no k) =
         let full : monthLength t.year t.month ≤ t.day = omega arith in
@@ -37,9 +37,9 @@ next-day t p = go (dec_lt t.day (monthLength t.year t.month)) (dec_lt t.month 12
           record { first = lit≤ tt; last = omega (arith, month-least (isLeap (t.year + 1)) 1 (omega arith) (omega arith)) },
           omega (
             arith,
-            sum_more (monthLength t.year) t.month,
+            sum-more (monthLength t.year) t.month,
             p.last,
-            sum_more yearLength t.year,
+            sum-more yearLength t.year,
             january (isLeap (t.year + 1)),
             ap (monthStart t.year) e,
             months-year (isLeap t.year),
@@ -58,16 +58,16 @@ prev-day t p = go (dec_lt 1 t.day) (dec_lt 1 t.month)
         let days = month-least (isLeap t.year) (t.month - 1) (omega arith) (omega (arith, month-of t p)) in
         simp (le-ltb _ _ low, lt-ltb _ _ k) (
           record { first = omega (arith, days); last = le_refl _ },
-          λ pos. omega (arith, p.first, days, sum_more (monthLength t.year) (t.month - 1), ap (monthStart t.year) e),
+          λ pos. omega (arith, p.first, days, sum-more (monthLength t.year) (t.month - 1), ap (monthStart t.year) e),
         )
     go (no h) (no k) = simp (le-ltb _ _ low, le-ltb _ _ low') (
       record { first = lit≤ tt; last = le_of_eq (sym (december _)) },
       λ pos. omega (
         arith,
         first,
-        sum_more yearLength (t.year - 1),
+        sum-more yearLength (t.year - 1),
         ap yearStart (e pos),
-        sum_more (monthLength (t.year - 1)) 12,
+        sum-more (monthLength (t.year - 1)) 12,
         months-year (isLeap (t.year - 1)),
         december (isLeap (t.year - 1)),
       ),

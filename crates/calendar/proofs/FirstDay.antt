@@ -8,7 +8,7 @@ use lib.Dec.{lit<}
 use lib.IntN.{ℤ, pos, negsuc, nat_abs, ◌+ℤ◌}
 use borrow.Author.Tests.{lt-ltb, le-ltb}
 use Rattle.integers.specs.Floor.{floorDiv}
-use Rattle.integers.proofs.Parts.{up, down, apart, natAbs-parts, add_parts, floor-div-parts}
+use Rattle.integers.proofs.Parts.{up, down, apart, natAbs-parts, add-parts, floor-div-parts}
 use Rattle.ion.specs.Calendar.Dates.{prevDay}
 use Rattle.ion.specs.Calendar.Shift.{IsDateTime, dateOf, minuteNumber, repeat, addDays, shifted}
 use Rattle.ion.specs.declared.Date.{Date}
@@ -40,7 +40,7 @@ pub year-zero-back : (t : DateTime) (z : ℤ) → t.hour < 24 → t.minute < 60 
 year-zero-back t z h m e k =
     let total = pos (t.hour * 60 + t.minute) +ℤ z in
     let d = floor-div-parts total 1440 (lit< tt) in
-    no-days-on (dateOf t) (floorDiv total 1440) (omega (arith, d, add_parts (pos (t.hour * 60 + t.minute)) z, apart total)) e
+    no-days-on (dateOf t) (floorDiv total 1440) (omega (arith, d, add-parts (pos (t.hour * 60 + t.minute)) z, apart total)) e
 
 pub moved-room : (t : DateTime) (z : ℤ) → IsDateTime t → nat_abs z < 1440 → 1 ≤ (shifted t z).year → down z ≤ minuteNumber t
 moved-room t z p w y = go (dec_le (down z) (minuteNumber t)) (dec_le 1 t.year)

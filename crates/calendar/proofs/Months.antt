@@ -13,7 +13,7 @@ use borrow.Author.Tests.{lt-ltb, le-ltb, ne_eqb}
 use Rattle.places.proofs.Table.{every, at}
 use Rattle.places.proofs.Decides.{Decides, le-decides, ◌and◌}
 use Rattle.ion.specs.Calendar.Dates.{leapDay, monthLengths, monthLengthOf, sumBelow, isMonth}
-use Rattle.calendar.proofs.Sums.{sum_past}
+use Rattle.calendar.proofs.Sums.{sum-past}
 
 -- ---- what a table says of each month
 
@@ -110,15 +110,15 @@ january leap = refl
 abbrev pub starts : List ℕ
 starts = 0 ∷ 0 ∷ 31 ∷ 59 ∷ 90 ∷ 120 ∷ 151 ∷ 181 ∷ 212 ∷ 243 ∷ 273 ∷ 304 ∷ 334 ∷ []
 
-pub start_is : (leap : Bool) (m : ℕ) → m ≤ 12 → sumBelow (monthLengthOf leap) m ≡ get_or starts m 0 + cond (ltb 2 m) (leapDay leap) 0
+pub start-is : (leap : Bool) (m : ℕ) → m ≤ 12 → sumBelow (monthLengthOf leap) m ≡ get_or starts m 0 + cond (ltb 2 m) (leapDay leap) 0
 unfolding entryIs sumBelow monthLengthOf
-start_is leap m h = by-table (λ leap. sumBelow (monthLengthOf leap)) (ltb 2) starts tt tt leap m (omega arith)
+start-is leap m h = by-table (λ leap. sumBelow (monthLengthOf leap)) (ltb 2) starts tt tt leap m (omega arith)
 
 pub start-early : (leap : Bool) (m : ℕ) → m ≤ 2 → sumBelow (monthLengthOf leap) m ≡ get_or starts m 0
-start-early leap m h = start_is leap m (omega arith) ∙ simp (le-ltb 2 m h, add-zero)
+start-early leap m h = start-is leap m (omega arith) ∙ simp (le-ltb 2 m h, add-zero)
 
 pub start-late : (leap : Bool) (m : ℕ) → 2 < m → m ≤ 12 → sumBelow (monthLengthOf leap) m ≡ get_or starts m 0 + leapDay leap
-start-late leap m h k = start_is leap m k ∙ simp (lt-ltb 2 m h)
+start-late leap m h k = start-is leap m k ∙ simp (lt-ltb 2 m h)
 
 pub start-below : (leap : Bool) (m : ℕ) → m ≤ 12 → sumBelow (monthLengthOf leap) m ≤ 365 + leapDay leap
-start-below leap m h = omega (arith, sum_past (monthLengthOf leap) m 13 (omega arith), months-year leap)
+start-below leap m h = omega (arith, sum-past (monthLengthOf leap) m 13 (omega arith), months-year leap)

@@ -6,12 +6,12 @@ use native.Mathlib.Omega.{arith}
 use lib.Dec.{lit<}
 use lib.IntN.{ℤ, pos, negsuc, nat_abs, neg_ℤ, ◌+ℤ◌, neg_ℤ-neg_ℤ}
 use Rattle.integers.specs.Floor.{floorDiv, ◌plus◌}
-use Rattle.integers.proofs.Parts.{up, down, apart, add_parts, floor-parts, floor-mod-lt, plus-parts, neg-parts, natAbs-parts}
+use Rattle.integers.proofs.Parts.{up, down, apart, add-parts, floor-parts, floor-mod-lt, plus-parts, neg-parts, natAbs-parts}
 use Rattle.ion.specs.Calendar.Dates.{dayNumber, IsDate, nextDay, prevDay, yearLength}
 use Rattle.ion.specs.Calendar.Shift.{dateOf, IsDateTime, minuteNumber, repeat, addDays, shifted}
 use Rattle.ion.specs.declared.Date.{Date}
 use Rattle.ion.specs.declared.DateTime.{DateTime}
-use Rattle.calendar.proofs.Sums.{sum_past}
+use Rattle.calendar.proofs.Sums.{sum-past}
 use Rattle.calendar.proofs.Dates.{in-year, day-number-inj, after-year-zero}
 use Rattle.calendar.proofs.Days.{next-day, prev-day}
 
@@ -68,15 +68,15 @@ module _ (t : DateTime) (z : ℤ) (p : IsDateTime t) where
 
   -- the days to go back are there, where the minutes are
   enough : down z ≤ minuteNumber t → down days ≤ dayNumber (dateOf t)
-  enough l = omega (arith, add_parts (pos time) z, floor-parts total 1440 (lit< tt), apart days, floor-mod-lt total 1440 (lit< tt))
+  enough l = omega (arith, add-parts (pos time) z, floor-parts total 1440 (lit< tt), apart days, floor-mod-lt total 1440 (lit< tt))
 
   shifted-minutes : down z ≤ minuteNumber t → minuteNumber (shifted t z) ≡ minuteNumber t plus z
   shifted-minutes l =
       let e = (add-days (dateOf t) days p.date).1 (enough l) in
-      omega (arith, add_parts (pos time) z, floor-parts total 1440 (lit< tt), e, plus-parts (minuteNumber t) z l)
+      omega (arith, add-parts (pos time) z, floor-parts total 1440 (lit< tt), e, plus-parts (minuteNumber t) z l)
 
-pub shift_back : (t : DateTime) (z : ℤ) → IsDateTime t → down z ≤ minuteNumber t → shifted (shifted t z) (neg_ℤ z) ≡ t
-shift_back t z p l =
+pub shift-back : (t : DateTime) (z : ℤ) → IsDateTime t → down z ≤ minuteNumber t → shifted (shifted t z) (neg_ℤ z) ≡ t
+shift-back t z p l =
     let s = shifted-is t z p in
     let e = shifted-minutes t z p l in
     let f = plus-parts (minuteNumber t) z l in
@@ -86,7 +86,7 @@ shift_back t z p l =
 
 -- against an offset and with it again
 pub shift-forth : (t : DateTime) (z : ℤ) → IsDateTime t → down (neg_ℤ z) ≤ minuteNumber t → shifted (shifted t (neg_ℤ z)) z ≡ t
-shift-forth t z p l = ap (shifted (shifted t (neg_ℤ z))) (sym (neg_ℤ-neg_ℤ z)) ∙ shift_back t (neg_ℤ z) p l
+shift-forth t z p l = ap (shifted (shifted t (neg_ℤ z))) (sym (neg_ℤ-neg_ℤ z)) ∙ shift-back t (neg_ℤ z) p l
 
 -- ---- the years 1 to 9999 leave room for an offset on both sides
 
@@ -103,8 +103,8 @@ year-most t u p h l = go (dec_le u.year 10000)
         absurd
         (omega (
           arith,
-          sum_past yearLength 10000 u.year (omega arith),
-          sum_past yearLength t.year 10000 (omega arith),
+          sum-past yearLength 10000 u.year (omega arith),
+          sum-past yearLength t.year 10000 (omega arith),
           in-year (dateOf t) p.date,
           p.hours,
           p.minutes,

@@ -7,15 +7,15 @@ use native.Mathlib.Numerals.{add-one}
 use native.Mathlib.Omega.{arith}
 use Rattle.ion.specs.Calendar.Dates.{sumBelow}
 
-pub sum_more : (f : ℕ → ℕ) (n : ℕ) → sumBelow f (n + 1) ≡ sumBelow f n + f n
+pub sum-more : (f : ℕ → ℕ) (n : ℕ) → sumBelow f (n + 1) ≡ sumBelow f n + f n
 unfolding sumBelow
-sum_more f n = rw add-one
+sum-more f n = rw add-one
 
 -- what lies at a lies before b
-pub sum_past : (f : ℕ → ℕ) (a b : ℕ) → a < b → sumBelow f a + f a ≤ sumBelow f b
+pub sum-past : (f : ℕ → ℕ) (a b : ℕ) → a < b → sumBelow f a + f a ≤ sumBelow f b
 unfolding sumBelow
-sum_past f a zero h = absurd (not-suc-le-zero h)
-sum_past f a (suc b) h = go (sum_past f a b) (eq-or-lt_of_le (le_of_suc-le-suc h))
+sum-past f a zero h = absurd (not-suc-le-zero h)
+sum-past f a (suc b) h = go (sum-past f a b) (eq-or-lt_of_le (le_of_suc-le-suc h))
   where
     go : (a < b → sumBelow f a + f a ≤ sumBelow f b) → (a ≡ b) ⊎ (a < b) → sumBelow f a + f a ≤ sumBelow f b + f b
     go ih (inl e) = rw e (le_refl (sumBelow f b + f b))

@@ -1,4 +1,6 @@
 // The proleptic Gregorian calendar, and dates and times moved by an offset.
+#![tactic(auto)]
+
 mod day;
 mod month;
 mod shift;

@@ -31,14 +31,14 @@ accepted-same n {a} {b} refused h = go (eqb n 0) refl
 module _ {A : Type 0} (read : Reader A) where
   -- ---- the end of the bytes
 
-  from_end : (n : ℕ) → contentsFrom read n [] ≡ contentsWith [] 0
+  from-end : (n : ℕ) → contentsFrom read n [] ≡ contentsWith [] 0
   unfolding contentsFrom
-  from_end zero = refl
-  from_end (suc n) = refl
+  from-end zero = refl
+  from-end (suc n) = refl
 
   pub contents-end : contents read [] ≡ contentsWith [] 0
   unfolding contents
-  contents-end = from_end 0
+  contents-end = from-end 0
 
   -- ---- an item that is refused
 
@@ -56,9 +56,9 @@ module _ {A : Type 0} {read : Reader A} (a : Advances read) where
   -- a larger limit than the number of bytes makes no difference
   from-fuel : (m n : ℕ) (s : List ℕ) → length s ≤ m → length s ≤ n → contentsFrom read m s ≡ contentsFrom read n s
   unfolding contentsFrom
-  from-fuel zero n [] h k = sym (from_end read n)
+  from-fuel zero n [] h k = sym (from-end read n)
   from-fuel zero n (b ∷ s) h k = absurd (omega arith)
-  from-fuel (suc m) n [] h k = sym (from_end read n)
+  from-fuel (suc m) n [] h k = sym (from-end read n)
   from-fuel (suc m) zero (b ∷ s) h k = absurd (omega arith)
   from-fuel (suc m) (suc n) (b ∷ s) h k =
       let t = drop (read.taken (b ∷ s)) (b ∷ s) in

@@ -1,1 +1,2 @@
 // No functions: laws of items read one after another.
+#![tactic(auto)]

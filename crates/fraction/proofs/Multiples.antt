@@ -12,14 +12,14 @@ use Rattle.ion.specs.Calls.Stages as stages
 use Rattle.ion.specs.declared.Fraction.{Fraction}
 use Rattle.fraction.proofs.Scales.{cut-multiple}
 use Rattle.fraction.proofs.Capped.{cap-high, cap-multiple}
-use Rattle.fraction.proofs.Quotients.{up_to}
+use Rattle.fraction.proofs.Quotients.{up-to}
 
 -- past the eighteenth digit the unit is 1, of which every number is a multiple
 decimal-multiple : (n d : ℕ) → attosecondsOf n d % scale d ≡ 0
 decimal-multiple n d = go (dec_le d 18)
   where
     go : Dec (d ≤ 18) → attosecondsOf n d % scale d ≡ 0
-    go (yes l) = ap (λ (k : ℕ). k % scale d) (sym (up_to n d l)) ∙ mul-mod_left n (scale d)
+    go (yes l) = ap (λ (k : ℕ). k % scale d) (sym (up-to n d l)) ∙ mul-mod_left n (scale d)
     go (no k) = let e : 18 - d ≡ 0 = omega arith in ap (λ (j : ℕ). attosecondsOf n d % 10 ^ j) e ∙ mod-one (attosecondsOf n d)
 
 -- what the stages leave of a fraction: no more than its digits

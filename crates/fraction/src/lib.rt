@@ -1,4 +1,6 @@
 // Fractions of a second: the powers of ten, and what each kind of fraction is in attoseconds.
+#![tactic(auto)]
+
 mod decimal;
 mod powers;
 mod units;

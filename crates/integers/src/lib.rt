@@ -1,4 +1,6 @@
 // Laws on signed numbers, and the one function that takes the size of one.
+#![tactic(auto)]
+
 ghost use Rattle.std.specs.Prelude.{◌≡◌, nat_abs};
 
 // The size of `value`, of the lowest too, which has no opposite of 64 bits.

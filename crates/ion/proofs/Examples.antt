@@ -14,19 +14,19 @@ use Rattle.ion.specs.Numbers.Int.{intCount, int, readInt}
 use Rattle.ion.specs.Numbers.Decimal.{decimalBytes}
 use Rattle.ion.specs.Calendar.Dates.{isLeap, monthLengthOf, sumBelow}
 use Rattle.ion.specs.Pair.Offset.{offsetMinutes}
-use Rattle.ion.specs.Pair.Word.{word_of, fields_of}
-use Rattle.ion.specs.Pair.Pair.{word_in, packedPair}
+use Rattle.ion.specs.Pair.Word.{wordOf, fieldsOf}
+use Rattle.ion.specs.Pair.Pair.{wordIn, packedPair}
 use Rattle.ion.specs.Pair.Fraction.{capped, milliseconds, nanoseconds}
 use Rattle.ion.specs.Calls.Build.{buildNumber, buildPair, buildOf}
 use Rattle.ion.specs.Calls.Stages.{withYear, withMonth, withDay, withHourAndMinute, withSecond, withFraction, withOffset}
 use Rattle.ion.specs.Calls.Check.{checkOf}
 use Rattle.ion.specs.Calls.Utc.{utcFields}
-use Rattle.ion.specs.Pair.Count.{count_of}
-use Rattle.ion.specs.Calls.Order.{cmpOf, eqOf, distance_of}
-use Rattle.ion.specs.Text.Format.{marked, fractionText, clockText, minutesText, offsetText, fieldsText, text_of}
-use Rattle.ion.specs.Value.Encode.{offsetBytes, varuints, fieldCount, fractionBytes, bodyFrom, body_of, header, value_of}
+use Rattle.ion.specs.Pair.Count.{countOf}
+use Rattle.ion.specs.Calls.Order.{cmpOf, eqOf, distanceOf}
+use Rattle.ion.specs.Text.Format.{marked, fractionText, clockText, minutesText, offsetText, fieldsText, textOf}
+use Rattle.ion.specs.Value.Encode.{offsetBytes, varuints, fieldCount, fractionBytes, bodyFrom, bodyOf, header, valueOf}
 use Rattle.ion.specs.Value.Decode.{decodeOffset, decodeFields, decodeFraction, filled, precisionWith, decodeBody, pairFrom}
-use Rattle.ion.specs.Value.ReadValue.{same, isBodyOf, read_body, readAfter, readLength, readValue}
+use Rattle.ion.specs.Value.ReadValue.{same, isBodyOf, readBody, readAfter, readLength, readValue}
 use Rattle.ion.specs.declared.BuilderFields.{BuilderFields}
 use Rattle.ion.specs.declared.BuilderOffset.TheVariants.{FromLocalFields}
 use Rattle.ion.specs.declared.Timestamp.{Timestamp}
@@ -97,7 +97,7 @@ stamp : BuilderFields → Timestamp
 stamp f = (buildOf f).stamp
 
 builtAnswer : Built → Answer
-builtAnswer b = pair b.number (word_in b.stamp) b.stamp.attoseconds
+builtAnswer b = pair b.number (wordIn b.stamp) b.stamp.attoseconds
 
 built : BuilderFields → Answer
 built f = builtAnswer (buildOf f)
@@ -106,24 +106,24 @@ refused : BuilderFields → Answer
 refused f = number (buildOf f).number
 
 text : BuilderFields → Answer
-text f = bytes (text_of (stamp f))
+text f = bytes (textOf (stamp f))
 
 written : BuilderFields → Answer
-written f = bytes (value_of (stamp f))
+written f = bytes (valueOf (stamp f))
 
 -- the value with a byte after it, which is not read
 readBack : List ℕ → Answer
-readBack s = let r = readValue (s ++ (0x6f ∷ [])) in value r.number (word_in r.stamp) r.stamp.attoseconds r.taken
+readBack s = let r = readValue (s ++ (0x6f ∷ [])) in value r.number (wordIn r.stamp) r.stamp.attoseconds r.taken
 
 -- the stamp, and how many bytes it took
 taken : BuilderFields → ℕ → Answer
-taken f n = value 0 (word_in (stamp f)) (stamp f).attoseconds n
+taken f n = value 0 (wordIn (stamp f)) (stamp f).attoseconds n
 
 compared : BuilderFields → BuilderFields → Answer
 compared f g = order (cmpOf (stamp f) (stamp g)).order (eqOf (stamp f) (stamp g)).equal
 
 apart : BuilderFields → BuilderFields → Answer
-apart f g = let d = distance_of (stamp f) (stamp g) in distance d.sign d.seconds d.attoseconds
+apart f g = let d = distanceOf (stamp f) (stamp g) in distance d.sign d.seconds d.attoseconds
 
 -- ---- the table
 
@@ -188,8 +188,8 @@ pub examples : map (λ (r : Row). r.given) table ≡ map (λ (r : Row). r.stated
 unfolding table row date minute sixth at p1 p3 p4 p5 p6 p7 p8 p1Bytes p3Bytes p4Bytes p5Bytes p6Bytes p7Bytes p8Bytes stamp
     builtAnswer built refused text written readBack taken compared apart placesOn places countIn count placeCount valueFrom groups
     varuint scanFrom readVarUInt signedCount signed varint readVarInt intCount int readInt decimalBytes paddedPlaces isLeap
-    monthLengthOf sumBelow word_of fields_of capped buildOf buildNumber buildPair checkOf utcFields count_of cmpOf eqOf distance_of
-    marked fractionText clockText minutesText offsetText fieldsText text_of offsetBytes varuints fieldCount fractionBytes bodyFrom
-    body_of header value_of decodeOffset decodeFields decodeFraction filled precisionWith decodeBody pairFrom same isBodyOf read_body
+    monthLengthOf sumBelow wordOf fieldsOf capped buildOf buildNumber buildPair checkOf utcFields countOf cmpOf eqOf distanceOf
+    marked fractionText clockText minutesText offsetText fieldsText textOf offsetBytes varuints fieldCount fractionBytes bodyFrom
+    bodyOf header valueOf decodeOffset decodeFields decodeFraction filled precisionWith decodeBody pairFrom same isBodyOf readBody
     readAfter readLength readValue
 examples = refl

@@ -7,8 +7,8 @@ use lib.IntN.{ℤ, pos, negsuc}
 use Rattle.ion.specs.Calendar.Dates.{isLeap, monthLengthOf, daysInMonth}
 use Rattle.ion.specs.Calendar.Shift.{shifted}
 use Rattle.ion.specs.Pair.Offset.{offsetMinutes}
-use Rattle.ion.specs.Pair.Pair.{word_in}
-use Rattle.ion.specs.Pair.Word.{word_of}
+use Rattle.ion.specs.Pair.Pair.{wordIn}
+use Rattle.ion.specs.Pair.Word.{wordOf}
 use Rattle.ion.specs.Calls.Build.{buildNumber, buildPair, buildOf}
 use Rattle.ion.specs.Calls.Stages.{withYear, withMonth, withDay, withHourAndMinute, withOffset}
 use Rattle.ion.specs.declared.BuilderOffset.TheVariants.{FromUtcFields}
@@ -51,7 +51,7 @@ fromUtc : ℕ → ℕ → ℕ → ℕ → ℕ → ℤ → Answer
 fromUtc y mo d h mi z =
     let f = withHourAndMinute (withDay (withMonth (withYear y) mo) d) h mi in
     let b = buildOf (withOffset f (FromUtcFields (offsetMinutes z))) in
-    built b.number (word_in b.stamp)
+    built b.number (wordIn b.stamp)
 
 -- ---- the table
 
@@ -92,5 +92,5 @@ monthRows =
     ∷ []
 
 pub month-examples : map (λ (r : Row). r.given) monthRows ≡ map (λ (r : Row). r.stated) monthRows
-unfolding monthRows row inYear edges months moved fromUtc isLeap monthLengthOf daysInMonth word_of buildOf buildNumber buildPair
+unfolding monthRows row inYear edges months moved fromUtc isLeap monthLengthOf daysInMonth wordOf buildOf buildNumber buildPair
 month-examples = refl

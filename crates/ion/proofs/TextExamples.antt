@@ -6,7 +6,7 @@ use mathlib.Core.List.{List, [], ◌∷◌, map}
 use mathlib.Core.Path.{◌≡◌, refl}
 use Rattle.places.specs.Places.{valueFrom}
 use Rattle.ion.specs.Calendar.Dates.{isLeap, monthLengthOf}
-use Rattle.ion.specs.Pair.Word.{word_of}
+use Rattle.ion.specs.Pair.Word.{wordOf}
 use Rattle.ion.specs.Pair.Pair.{packedPair}
 use Rattle.ion.specs.Calls.Build.{refusedBuild, acceptedBuild, buildNumber, buildPair, buildOf}
 use Rattle.ion.specs.Text.Ascii.{ascii}
@@ -96,5 +96,5 @@ textRows =
 -- every row
 pub text-examples : map (λ (r : TextRow). readTextOf (ascii r.text)) textRows ≡ map (λ (r : TextRow). r.answer) textRows
 unfolding textRows takes refuses valueFrom digitRun digitsValue readDigits readMarked signedClock readClock readOffset endOffset endT
-    endDate endDigits endSecond readText readTextOf same buildOf buildNumber buildPair word_of isLeap monthLengthOf
+    endDate endDigits endSecond readText readTextOf same buildOf buildNumber buildPair wordOf isLeap monthLengthOf
 text-examples = refl

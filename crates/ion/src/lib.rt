@@ -1,4 +1,6 @@
 // The types of the library's calls. What each call answers is defined in specs/.
+#![tactic(auto)]
+
 pub mod offset;
 pub mod refusal;
 
@@ -12,14 +14,14 @@ use offset::{Offset, OffsetMinutes, RawOffset};
 pub const MAX_ATTOSECONDS: u64 = 1_000_000_000_000_000_000;
 
 // A timestamp is its packed pair. Anyone may hold a wrong pair: every call checks the pair it is given.
-#[derive(Drop)]
+#[derive(Clone, Copy)]
 pub struct Timestamp {
     pub packed_fields: u64,
     pub attoseconds: u64,
 }
 
 // The fields of a packed word. The precision is 0 year, 1 month, 2 day, 3 hour and minute, 4 second.
-#[derive(Drop)]
+#[derive(Clone, Copy)]
 pub struct Fields {
     pub year: u32,
     pub month: u32,
@@ -32,7 +34,7 @@ pub struct Fields {
     pub offset: RawOffset,
 }
 
-#[derive(Drop)]
+#[derive(Clone, Copy)]
 pub struct Date {
     pub year: u32,
     pub month: u32,
@@ -40,7 +42,7 @@ pub struct Date {
 }
 
 // A date and a time of its day, to the minute.
-#[derive(Drop)]
+#[derive(Clone, Copy)]
 pub struct DateTime {
     pub year: u32,
     pub month: u32,
@@ -50,14 +52,14 @@ pub struct DateTime {
 }
 
 // A fraction of a second: attoseconds, 10^18 for a second or more, and its number of digits.
-#[derive(Drop)]
+#[derive(Clone, Copy)]
 pub struct Fraction {
     pub attoseconds: u64,
     pub digits: u64,
 }
 
 // A coefficient with a sign, times a power of ten.
-#[derive(Drop)]
+#[derive(Clone, Copy)]
 pub struct Decimal {
     pub negative: bool,
     pub coefficient: u64,
@@ -65,7 +67,7 @@ pub struct Decimal {
 }
 
 // The finest field that a timestamp tells.
-#[derive(Drop)]
+#[derive(Clone, Copy)]
 pub enum TimestampPrecision {
     Year,
     Month,
@@ -75,7 +77,7 @@ pub enum TimestampPrecision {
 }
 
 // How the builder's fields relate to UTC.
-#[derive(Drop)]
+#[derive(Clone, Copy)]
 pub enum BuilderOffset {
     Unknown,
     FromLocalFields(OffsetMinutes),
@@ -95,7 +97,7 @@ impl BuilderOffset {
 }
 
 // What the builder has been given, with the first value of each field that it has not.
-#[derive(Drop)]
+#[derive(Clone, Copy)]
 pub struct BuilderFields {
     pub precision: TimestampPrecision,
     pub offset: BuilderOffset,
@@ -112,7 +114,7 @@ pub struct BuilderFields {
 // ---- answers: a number first, 0 for accepted
 
 // A timestamp; the pair (0, 0) beside a refusal.
-#[derive(Drop)]
+#[derive(Clone, Copy)]
 pub struct Built {
     pub number: u32,
     pub stamp: Timestamp,
@@ -133,47 +135,47 @@ impl Built {
 }
 
 // A field read from a timestamp; 0 beside a refusal.
-#[derive(Drop)]
+#[derive(Clone, Copy)]
 pub struct Field {
     pub number: u32,
     pub value: u32,
 }
 
-#[derive(Drop)]
+#[derive(Clone, Copy)]
 pub struct Attoseconds {
     pub number: u32,
     pub value: u64,
 }
 
 // The offset read from a timestamp; unknown beside a refusal.
-#[derive(Drop)]
+#[derive(Clone, Copy)]
 pub struct OffsetField {
     pub number: u32,
     pub value: Offset,
 }
 
 // The fraction read from a timestamp; 0 with exponent 0 beside a refusal or where there is none.
-#[derive(Drop)]
+#[derive(Clone, Copy)]
 pub struct DecimalField {
     pub number: u32,
     pub value: Decimal,
 }
 
 // -1, 0 or 1; 0 beside a refusal.
-#[derive(Drop)]
+#[derive(Clone, Copy)]
 pub struct Ordered {
     pub number: u32,
     pub order: i32,
 }
 
-#[derive(Drop)]
+#[derive(Clone, Copy)]
 pub struct Compared {
     pub number: u32,
     pub equal: bool,
 }
 
 // The sign of the first less the second, and the size of the difference; 0 beside a refusal.
-#[derive(Drop)]
+#[derive(Clone, Copy)]
 pub struct Distance {
     pub number: u32,
     pub sign: i32,
@@ -182,14 +184,14 @@ pub struct Distance {
 }
 
 // How many bytes were written; 0 beside a refusal.
-#[derive(Drop)]
+#[derive(Clone, Copy)]
 pub struct Written {
     pub number: u32,
     pub written: usize,
 }
 
 // A timestamp and how many bytes it took; the pair (0, 0) and 0 beside a refusal.
-#[derive(Drop)]
+#[derive(Clone, Copy)]
 pub struct Read {
     pub number: u32,
     pub stamp: Timestamp,
@@ -199,7 +201,7 @@ pub struct Read {
 // ---- what the readers of parts of a value find
 
 // The parts of a value's body: an offset, UTC fields, and the coefficient of the fraction.
-#[derive(Drop)]
+#[derive(Clone, Copy)]
 pub struct Body {
     pub offset: Offset,
     pub utc: Fields,
@@ -208,7 +210,7 @@ pub struct Body {
 
 // A value with the number of its bytes; the end of the input inside it; or no shortest form of a
 // number within the limit.
-#[derive(Drop)]
+#[derive(Clone, Copy)]
 pub enum VarUIntRead {
     Value(u64, usize),
     Cut,
@@ -216,7 +218,7 @@ pub enum VarUIntRead {
 }
 
 // A sign, a magnitude and the number of bytes: negative zero is one of its own.
-#[derive(Drop)]
+#[derive(Clone, Copy)]
 pub enum VarIntRead {
     Value(bool, u64, usize),
     Cut,
@@ -224,7 +226,7 @@ pub enum VarIntRead {
 }
 
 // A number, or bytes that are no shortest form of one.
-#[derive(Drop)]
+#[derive(Clone, Copy)]
 pub enum IntRead {
     Value(u64),
     Bad,
@@ -233,20 +235,20 @@ pub enum IntRead {
 // ---- what the readers of parts of a text find
 
 // The number that digits make, or that they are not there.
-#[derive(Drop)]
+#[derive(Clone, Copy)]
 pub enum DigitsRead {
     Value(u32),
     Missing,
 }
 
-#[derive(Drop)]
+#[derive(Clone, Copy)]
 pub enum OffsetRead {
     Found(Offset),
     Wrong,
 }
 
 // The fields of a text that has one of the forms.
-#[derive(Drop)]
+#[derive(Clone, Copy)]
 pub enum TextRead {
     Form(BuilderFields),
     Broken,

@@ -1,7 +1,7 @@
 // Offsets from UTC. A raw number is never read as minutes, nor minutes as a raw number: only the functions
 // here go from one to the other.
 ghost use Rattle.std.specs.Prelude.{◌≡◌, ◌<◌, nat_abs, neg_ℤ, ◌-ℤ◌};
-ghost use Rattle.ion.specs.Pair.Offset.{offsetMinutes, rawOffset, offset_of, rawOf, minutesOf, isOffset, WithinDay};
+ghost use Rattle.ion.specs.Pair.Offset.{offsetMinutes, rawOffset, offsetOf, rawOf, minutesOf, isOffset, WithinDay};
 
 // The text of an unknown offset.
 pub const UNKNOWN_TEXT: [u8; 6] = *b"-00:00";
@@ -10,14 +10,14 @@ pub const UNKNOWN_TEXT: [u8; 6] = *b"-00:00";
 pub const ZERO_TEXT: [u8; 6] = *b"+00:00";
 
 // The biased 12-bit number of a packed word: 0 for unknown, else minutes plus 1,440.
-#[derive(Drop)]
+#[derive(Clone, Copy)]
 pub struct RawOffset(u16);
 
 // Minutes east of UTC.
-#[derive(Drop)]
+#[derive(Clone, Copy)]
 pub struct OffsetMinutes(i32);
 
-#[derive(Drop)]
+#[derive(Clone, Copy)]
 pub enum Offset {
     Unknown,
     Known(OffsetMinutes),
@@ -76,7 +76,7 @@ impl OffsetMinutes {
 
 // The offset that a raw number stands for.
 pub fn offset_of(raw: RawOffset) -> Offset
-    ensures { result ≡ offset_of raw }
+    ensures { result ≡ offsetOf raw }
 {
     let n = raw.0;
     if n == 0 {

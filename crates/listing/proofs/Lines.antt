@@ -6,8 +6,8 @@ use native.Mathlib.Omega.{arith}
 use borrow.Author.Tests.{le-ltb, lt-ltb}
 use lib.ListN.{length}
 use Rattle.ion.specs.Calls.Refusal.{longInput}
-use Rattle.ion.specs.Calls.Contents.{contentsWith, contents, in_turn}
-use Rattle.ion.specs.Calls.Stamps.{textLine, stopLine, valueReader, lines_of, outputOf}
+use Rattle.ion.specs.Calls.Contents.{contentsWith, contents, inTurn}
+use Rattle.ion.specs.Calls.Stamps.{textLine, stopLine, valueReader, linesOf, outputOf}
 use Rattle.ion.specs.declared.Timestamp.{Timestamp}
 use Rattle.ion.proofs.Answers.{answered-refused}
 use Rattle.value_reader.proofs.Readings.{value-within}
@@ -23,14 +23,14 @@ unfolding outputOf
 output-long s h = rw (lt-ltb 65536 (length s) h)
 
 module _ (s : List ℕ) (h : length s ≤ 65536) {xs : List Timestamp} where
-  lines : {n : ℕ} → contents valueReader s ≡ contentsWith xs n → outputOf s ≡ lines_of (contentsWith xs n)
+  lines : {n : ℕ} → contents valueReader s ≡ contentsWith xs n → outputOf s ≡ linesOf (contentsWith xs n)
   unfolding outputOf
-  lines e = rw (le-ltb 65536 (length s) h) (ap lines_of e)
+  lines e = rw (le-ltb 65536 (length s) h) (ap linesOf e)
 
-  pub output-end : contents valueReader s ≡ contentsWith xs 0 → outputOf s ≡ in_turn textLine xs
-  unfolding lines_of
-  output-end e = lines e ∙ append-nil (in_turn textLine xs)
+  pub output-end : contents valueReader s ≡ contentsWith xs 0 → outputOf s ≡ inTurn textLine xs
+  unfolding linesOf
+  output-end e = lines e ∙ append-nil (inTurn textLine xs)
 
-  pub output-stop : {n : ℕ} → contents valueReader s ≡ contentsWith xs n → (n ≡ 0 → ⊥) → outputOf s ≡ in_turn textLine xs ++ stopLine n
-  unfolding lines_of
-  output-stop {n} e z = lines e ∙ ap (λ (l : List ℕ). in_turn textLine xs ++ l) (answered-refused n _ stopLine z)
+  pub output-stop : {n : ℕ} → contents valueReader s ≡ contentsWith xs n → (n ≡ 0 → ⊥) → outputOf s ≡ inTurn textLine xs ++ stopLine n
+  unfolding linesOf
+  output-stop {n} e z = lines e ∙ ap (λ (l : List ℕ). inTurn textLine xs ++ l) (answered-refused n _ stopLine z)

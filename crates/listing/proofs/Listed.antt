@@ -5,15 +5,15 @@ use Prim.Native.Nat.{ℕ, ◌+◌, ◌*◌, ◌≤◌, ◌<◌}
 use native.Mathlib.Omega.{arith}
 use lib.ListN.{length, drop}
 use Rattle.ion.specs.Calls.Output.{Run}
-use Rattle.ion.specs.Calls.Contents.{in_turn}
+use Rattle.ion.specs.Calls.Contents.{inTurn}
 use Rattle.ion.specs.Calls.Stamps.{textLine, stopLine, valueReader, outputOf}
 use Rattle.ion.specs.Value.ReadValue.{readValue}
 use Rattle.ion.specs.declared.Timestamp.{Timestamp}
-use Rattle.output.proofs.Stores.{length_over}
-use Rattle.output.proofs.Runs.{run_none, run-two, run_is}
+use Rattle.output.proofs.Stores.{length-over}
+use Rattle.output.proofs.Runs.{run-none, run-two, run-is}
 use Rattle.contents.proofs.Readers.{ReadsAs}
 use Rattle.contents.proofs.Passing.{Passed, pass-start, pass-within, pass-next, pass-stop, pass-end}
-use Rattle.contents.proofs.Written.{in_turn_last}
+use Rattle.contents.proofs.Written.{in-turn-last}
 use Rattle.value_reader.proofs.Readings.{value-within}
 use Rattle.listing.proofs.Lines.{value-advances, output-end, output-stop}
 
@@ -21,19 +21,19 @@ use Rattle.listing.proofs.Lines.{value-advances, output-end, output-stop}
 pub record Listed (input d e : List ℕ) (at end : ℕ) : Type 0 where
   pub stamps : List Timestamp
   pub passed : Passed valueReader input at stamps
-  pub run : Run d 0 (in_turn textLine stamps) e end
+  pub run : Run d 0 (inTurn textLine stamps) e end
   pub few : end ≤ 15 * at
   pub room : 15 * length input + 8 ≤ length d
 
 pub start : (input d : List ℕ) → 15 * length input + 8 ≤ length d → Listed input d d 0 0
-unfolding in_turn
-start input d h = record { stamps = []; passed = pass-start valueReader input; run = run_none d 0; few = omega arith; room = h }
+unfolding inTurn
+start input d h = record { stamps = []; passed = pass-start valueReader input; run = run-none d 0; few = omega arith; room = h }
 
 module _ {input d e : List ℕ} {at end : ℕ} (p : Listed input d e at end) where
   pub size : length e ≡ length d
   size =
-      let l = in_turn textLine p.stamps in
-      ap length p.run.bytes ∙ length_over d 0 l (omega (arith, p.run.next, p.few, p.passed.within, p.room))
+      let l = inTurn textLine p.stamps in
+      ap length p.run.bytes ∙ length-over d 0 l (omega (arith, p.run.next, p.few, p.passed.within, p.room))
 
   -- one more value
   module _ {x : Timestamp} {k : ℕ} (r : ReadsAs valueReader (drop at input) x k) where
@@ -48,7 +48,7 @@ module _ {input d e : List ℕ} {at end : ℕ} (p : Listed input d e at end) whe
         record {
           stamps = p.stamps ++ (x ∷ []);
           passed = pass-next p.passed value-advances r;
-          run = run_is (run-two p.run q (omega (arith, line-room))) (sym (in_turn_last textLine p.stamps x));
+          run = run-is (run-two p.run q (omega (arith, line-room))) (sym (in-turn-last textLine p.stamps x));
           few = omega (arith, few-next);
           room = p.room;
         }
@@ -57,8 +57,8 @@ module _ {input d e : List ℕ} {at end : ℕ} (p : Listed input d e at end) whe
     -- the last line
     pub stop : at < length input → {m : ℕ} → (readValue (drop at input)).number ≡ m → (m ≡ 0 → ⊥)
         → {g : List ℕ} {n : ℕ} → Run e end (stopLine m) g n → n ≤ length d → Run d 0 (outputOf input) g n
-    stop h a z q l = run_is (run-two p.run q l) (sym (output-stop input short (pass-stop p.passed h a z) z))
+    stop h a z q l = run-is (run-two p.run q l) (sym (output-stop input short (pass-stop p.passed h a z) z))
 
     -- the end of the input
     pub finish : length input ≤ at → Run d 0 (outputOf input) e end
-    finish h = run_is p.run (sym (output-end input short (pass-end p.passed h)))
+    finish h = run-is p.run (sym (output-end input short (pass-end p.passed h)))

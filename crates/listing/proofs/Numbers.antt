@@ -6,7 +6,7 @@ use native.Mathlib.Omega.{arith}
 use lib.Dec.{eqb, ltb}
 use lib.ListN.{length, take}
 use Rattle.ion.specs.Value.Decode.{Decoded, found, nothing, decodeBody, pairFrom}
-use Rattle.ion.specs.Value.ReadValue.{isBodyOf, takenAs, read_body, readAfter, readLength, readValue}
+use Rattle.ion.specs.Value.ReadValue.{isBodyOf, takenAs, readBody, readAfter, readLength, readValue}
 use Rattle.ion.specs.declared.Body.{Body}
 use Rattle.ion.specs.declared.Read.{Read}
 
@@ -14,8 +14,8 @@ either : (t : Bool) (a b : Read) → a.number ≤ 15 → b.number ≤ 15 → (co
 either true a b h k = h
 either false a b h k = k
 
-body-number : (n : ℕ) (b : List ℕ) → (read_body n b).number ≤ 15
-unfolding read_body
+body-number : (n : ℕ) (b : List ℕ) → (readBody n b).number ≤ 15
+unfolding readBody
 body-number n b = go (decodeBody b)
   where
     go : (d : Decoded Body) → (takenAs n b d).number ≤ 15
@@ -31,8 +31,8 @@ unfolding readLength
 length-number [] = omega arith
 length-number (c ∷ s) = either (ltb c 0x8e || ltb 0x92 c) _ _ (omega arith) (after-number 2 (c - 0x80) s)
 
-pub read_number : (s : List ℕ) → (readValue s).number ≤ 15
+pub read-number : (s : List ℕ) → (readValue s).number ≤ 15
 unfolding readValue
-read_number [] = omega arith
-read_number (d ∷ s) =
+read-number [] = omega arith
+read-number (d ∷ s) =
     either (ltb d 0x60 || ltb 0x6e d) _ _ (omega arith) (either (eqb d 0x6e) _ _ (length-number s) (after-number 1 (d - 0x60) s))

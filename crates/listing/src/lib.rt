@@ -1,9 +1,11 @@
 // The lines that the program `stamps` prints for an input.
+#![tactic(auto)]
+
 ghost use Rattle.std.specs.Prelude.{◌+◌, ◌*◌, ◌≤◌, ◌<◌, length};
 ghost use Rattle.ion.specs.Calls.Accepted.{Accepted};
 ghost use Rattle.ion.specs.Calls.Output.{Run};
-ghost use Rattle.ion.specs.Calls.Stamps.{line_of, stopLine, outputOf};
-ghost use Rattle.ion.specs.Text.Format.{text_of};
+ghost use Rattle.ion.specs.Calls.Stamps.{lineOf, stopLine, outputOf};
+ghost use Rattle.ion.specs.Text.Format.{textOf};
 
 use ion::{Timestamp, refusal};
 use text::text_formatter;
@@ -11,7 +13,7 @@ use text::text_formatter;
 // Puts a text and a line feed from index `at` on; the index after them.
 fn put_text(buf: &mut [u8], at: usize, s: Timestamp) -> usize
     requires { (at + 45 ≤ length buf.old) × Accepted s }
-    ensures run { Run buf.old at (line_of (text_of s)) buf.new result }
+    ensures run { Run buf.old at (lineOf (textOf s)) buf.new result }
     ensures upper_bound { result ≤ at + 45 }
 {
     let end = timestamp_text::text_into(buf, at, packed::unpack(s.packed_fields), s.attoseconds);

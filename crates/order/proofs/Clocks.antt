@@ -4,19 +4,19 @@ use Prim.Native.Nat.{ℕ, ◌+◌, ◌*◌, ◌^◌, ◌<◌}
 use native.Mathlib.Omega.{arith}
 use lib.IntN.{ℤ, pos, neg_ℤ, nat_abs, ◌+ℤ◌, ◌-ℤ◌}
 use Rattle.integers.specs.Floor.{◌plus◌}
-use Rattle.integers.proofs.Parts.{IsNatural, up, down, apart, add_parts, sub_parts, neg-parts, plus-parts, natAbs-parts}
-use Rattle.ion.specs.Pair.Offset.{offset_of}
+use Rattle.integers.proofs.Parts.{IsNatural, up, down, apart, add-parts, sub-parts, neg-parts, plus-parts, natAbs-parts}
+use Rattle.ion.specs.Pair.Offset.{offsetOf}
 use Rattle.ion.specs.Pair.Count.{offsetIn, fieldsCount}
 use Rattle.ion.specs.Calendar.Shift.{minuteNumber}
 use Rattle.ion.specs.Calls.Accepted.{timeIn, dateIn, Valid}
-use Rattle.ion.specs.Calls.Order.{order_of, orderOfPairs, distant, distanceOfCounts}
+use Rattle.ion.specs.Calls.Order.{orderOf, orderOfPairs, distant, distanceOfCounts}
 use Rattle.ion.specs.declared.Fields.{Fields}
 use Rattle.ion.proofs.Offsets.{within-day}
 use Rattle.calendar.proofs.Dates.{after-year-zero, day-number-below}
 use Rattle.timestamp.proofs.Valid.{valid-time, valid-offset}
 use Rattle.order.specs.Local.{IsLocalFields, secondsAt, offsetDifference, secondsOfBoth}
 use Rattle.order.proofs.Orders.{order-shift}
-use Rattle.order.proofs.CountsInSeconds.{size-shift, shift-counts, pairs_like}
+use Rattle.order.proofs.CountsInSeconds.{size-shift, shift-counts, pairs-like}
 
 -- the fields of an accepted timestamp are local fields
 pub valid-local : {f : Fields} {a : ℕ} → Valid f a → IsLocalFields f
@@ -26,7 +26,7 @@ valid-local {f} v =
       from-year = v.from-year;
       to-year = v.to-year;
       second = v.second;
-      offset = within-day (offset_of f.offset) (valid-offset v);
+      offset = within-day (offsetOf f.offset) (valid-offset v);
     }
 
 -- whole seconds in UTC
@@ -50,7 +50,7 @@ module _ (f : Fields) (p : IsLocalFields f) where
 
     -- the sum in signed numbers, as the code makes it
     pub moved-gives : IsNatural (pos minutes +ℤ z) (minutes plus z)
-    moved-gives = omega (arith, add_parts (pos minutes) z, apart (pos minutes +ℤ z), minutes-parts)
+    moved-gives = omega (arith, add-parts (pos minutes) z, apart (pos minutes +ℤ z), minutes-parts)
 
     pub moved-below : minutes plus z < 2 ^ 33
     moved-below = omega (arith, minutes-below, natAbs-parts z, minutes-parts)
@@ -65,11 +65,11 @@ module _ (f : Fields) (p : IsLocalFields f) where
 -- ---- both by the local clock of the first
 
 module _ (f g : Fields) (p : IsLocalFields f) (q : IsLocalFields g) where
-  pub ahead_small : nat_abs (offsetDifference f g) < 2880
-  ahead_small =
+  pub ahead-small : nat_abs (offsetDifference f g) < 2880
+  ahead-small =
       let o = offsetIn f in
       let r = offsetIn g in
-      omega (arith, p.offset, q.offset, natAbs-parts o, natAbs-parts r, natAbs-parts (o -ℤ r), sub_parts o r, apart (o -ℤ r))
+      omega (arith, p.offset, q.offset, natAbs-parts o, natAbs-parts r, natAbs-parts (o -ℤ r), sub-parts o r, apart (o -ℤ r))
 
   abbrev first : ℕ
   first = (secondsOfBoth f g).first
@@ -80,15 +80,15 @@ module _ (f g : Fields) (p : IsLocalFields f) (q : IsLocalFields g) where
   -- both are as far from UTC
   same-clock : first + utcSeconds g ≡ second + utcSeconds f
   same-clock =
-      let ahead = minutes-parts g q (offsetDifference f g) ahead_small in
-      omega (arith, utc-parts f p, utc-parts g q, ahead, sub_parts (offsetIn f) (offsetIn g))
+      let ahead = minutes-parts g q (offsetDifference f g) ahead-small in
+      omega (arith, utc-parts f p, utc-parts g q, ahead, sub-parts (offsetIn f) (offsetIn g))
 
   module _ (a b : ℕ) where
-    pub order_is : a < 10 ^ 18 → b < 10 ^ 18 → orderOfPairs first a second b ≡ order_of (fieldsCount f a) (fieldsCount g b)
-    order_is h k =
+    pub order-is : a < 10 ^ 18 → b < 10 ^ 18 → orderOfPairs first a second b ≡ orderOf (fieldsCount f a) (fieldsCount g b)
+    order-is h k =
         let s = utcSeconds f in
         let t = utcSeconds g in
-        pairs_like (10 ^ 18) s t a b h k first second (order-shift first second s t same-clock)
+        pairs-like (10 ^ 18) s t a b h k first second (order-shift first second s t same-clock)
 
     counts-shift : (first * 10 ^ 18 + a) + fieldsCount g b ≡ (second * 10 ^ 18 + b) + fieldsCount f a
     counts-shift = shift-counts (10 ^ 18) first second (utcSeconds f) (utcSeconds g) a b same-clock

@@ -6,13 +6,13 @@ use native.Mathlib.Decide.{dec_lt, ℕ_discrete}
 use native.Mathlib.Omega.{arith}
 use lib.Arith.{digits_div, digits_mod}
 use lib.IntN.{pos, ◌-ℤ◌}
-use Rattle.integers.proofs.Parts.{apart, sub_parts, natAbs-parts}
-use Rattle.ion.specs.Calls.Order.{order_of, sizeOfDifference, orderOfPairs}
-use Rattle.order.proofs.Orders.{order_alike, pairs_first, pairs-second, pairs-alike}
+use Rattle.integers.proofs.Parts.{apart, sub-parts, natAbs-parts}
+use Rattle.ion.specs.Calls.Order.{orderOf, sizeOfDifference, orderOfPairs}
+use Rattle.order.proofs.Orders.{order-alike, pairs-first, pairs-second, pairs-alike}
 
 -- the size in natural numbers: of the two subtractions, cut off at 0, one is 0
 size-cut : (m n : ℕ) → sizeOfDifference m n ≡ (m - n) + (n - m)
-size-cut m n = let z = pos m -ℤ pos n in omega (arith, sub_parts (pos m) (pos n), natAbs-parts z, apart z)
+size-cut m n = let z = pos m -ℤ pos n in omega (arith, sub-parts (pos m) (pos n), natAbs-parts z, apart z)
 
 pub size-shift : (m n s t : ℕ) → m + t ≡ n + s → sizeOfDifference m n ≡ sizeOfDifference s t
 size-shift m n s t e = omega (arith, size-cut m n, size-cut s t)
@@ -39,8 +39,8 @@ module _ (K : ℕ) where
 
   module _ (s t a b : ℕ) (ha : a < K) where
     -- the seconds of a count that is not earlier
-    pub whole_le : t * K + b ≤ s * K + a → t ≤ s
-    whole_le h = go (dec_lt s t)
+    pub whole-le : t * K + b ≤ s * K + a → t ≤ s
+    whole-le h = go (dec_lt s t)
       where
         go : Dec (s < t) → t ≤ s
         go (yes l) = absurd (omega (arith, earlier s t a b ha l))
@@ -51,23 +51,23 @@ module _ (K : ℕ) where
       where
         go : Dec (t < s) → t < s
         go (yes k) = k
-        go (no k) = let e : s ≡ t = omega (arith, whole_le h) in absurd (omega (arith, ap (λ (x : ℕ). x * K) e))
+        go (no k) = let e : s ≡ t = omega (arith, whole-le h) in absurd (omega (arith, ap (λ (x : ℕ). x * K) e))
 
     module _ (hb : b < K) where
-      pub pairs-count : orderOfPairs s a t b ≡ order_of (s * K + a) (t * K + b)
+      pub pairs-count : orderOfPairs s a t b ≡ orderOf (s * K + a) (t * K + b)
       pairs-count = go (ℕ_discrete s t)
         where
-          go : Dec (s ≡ t) → orderOfPairs s a t b ≡ order_of (s * K + a) (t * K + b)
+          go : Dec (s ≡ t) → orderOfPairs s a t b ≡ orderOf (s * K + a) (t * K + b)
           go (yes e) =
               let k : s * K ≡ t * K = ap (λ (x : ℕ). x * K) e in
-              pairs-second s a t b e ∙ order_alike a b (s * K + a) (t * K + b) (λ h. omega arith) (λ h. omega arith) (λ h. omega arith)
+              pairs-second s a t b e ∙ order-alike a b (s * K + a) (t * K + b) (λ h. omega arith) (λ h. omega arith) (λ h. omega arith)
           go (no h) =
-              pairs_first s a t b h
-              ∙ order_alike s t (s * K + a) (t * K + b) (earlier s t a b ha) (λ e. absurd (h e)) (earlier t s b a hb)
+              pairs-first s a t b h
+              ∙ order-alike s t (s * K + a) (t * K + b) (earlier s t a b ha) (λ e. absurd (h e)) (earlier t s b a hb)
 
       -- whatever other seconds lie as these do
-      pub pairs_like : (m n : ℕ) → order_of m n ≡ order_of s t → orderOfPairs m a n b ≡ order_of (s * K + a) (t * K + b)
-      pairs_like m n e = pairs-alike m n s t a b e ∙ pairs-count
+      pub pairs-like : (m n : ℕ) → orderOf m n ≡ orderOf s t → orderOfPairs m a n b ≡ orderOf (s * K + a) (t * K + b)
+      pairs-like m n e = pairs-alike m n s t a b e ∙ pairs-count
 
       -- the first is not earlier in seconds or attoseconds
       pub size-plain : t ≤ s → b ≤ a → sizeOfDifference (s * K + a) (t * K + b) ≡ (s - t) * K + (a - b)
@@ -88,6 +88,6 @@ module _ (K : ℕ) where
 -- numbers of two digits lie as their first digits do, whatever the bases
 pub digits-alike :
     (B C m n s t a b : ℕ) → C ≤ B → a < C → b < C →
-    order_of m n ≡ order_of s t → order_of (m * B + a) (n * B + b) ≡ order_of (s * C + a) (t * C + b)
+    orderOf m n ≡ orderOf s t → orderOf (m * B + a) (n * B + b) ≡ orderOf (s * C + a) (t * C + b)
 digits-alike B C m n s t a b l ha hb e =
-    sym (pairs-count B m n a b (lt_of_lt_of_le ha l) (lt_of_lt_of_le hb l)) ∙ pairs_like C s t a b ha hb m n e
+    sym (pairs-count B m n a b (lt_of_lt_of_le ha l) (lt_of_lt_of_le hb l)) ∙ pairs-like C s t a b ha hb m n e

@@ -4,21 +4,21 @@ use mathlib.Core.Logic.{◌⊎◌, inl, inr}
 use Prim.Native.Nat.{ℕ, ◌+◌, ◌*◌, ◌/◌, ◌%◌, ◌^◌, ◌<◌}
 use native.Mathlib.Omega.{arith}
 use Rattle.integers.proofs.Parts.{up, down}
-use Rattle.ion.specs.Pair.Offset.{rawOffset, offset_of, minutesOf}
+use Rattle.ion.specs.Pair.Offset.{rawOffset, offsetOf, minutesOf}
 use Rattle.ion.specs.Calendar.Dates.{IsDate, Earlier, dayNumber}
-use Rattle.ion.specs.Pair.Pair.{word_in}
+use Rattle.ion.specs.Pair.Pair.{wordIn}
 use Rattle.ion.specs.Calls.Accepted.{dateIn, Accepted}
-use Rattle.ion.specs.Pair.Count.{offsetIn, count_of}
-use Rattle.ion.specs.Calls.Order.{order_of, orderOfPairs}
-use Rattle.ion.specs.Pair.Word.{InRange, word_of, fields_of}
+use Rattle.ion.specs.Pair.Count.{offsetIn, countOf}
+use Rattle.ion.specs.Calls.Order.{orderOf, orderOfPairs}
+use Rattle.ion.specs.Pair.Word.{InRange, wordOf, fieldsOf}
 use Rattle.ion.specs.declared.Date.{Date}
 use Rattle.ion.specs.declared.Fields.{Fields}
 use Rattle.ion.specs.declared.Timestamp.{Timestamp}
 use Rattle.calendar.proofs.Dates.{month-of, day-of, day-number-mono, date-order}
 use Rattle.timestamp.proofs.Valid.{valid-in-range, accepted-word}
 use Rattle.order.specs.Local.{IsLocalFields}
-use Rattle.order.proofs.Orders.{order-less, order-more, order_same, order_alike, order-shift, pairs-alike}
-use Rattle.order.proofs.CountsInSeconds.{pairs_like, digits-alike}
+use Rattle.order.proofs.Orders.{order-less, order-more, order-same, order-alike, order-shift, pairs-alike}
+use Rattle.order.proofs.CountsInSeconds.{pairs-like, digits-alike}
 use Rattle.order.proofs.Clocks.{valid-local, utcSeconds, utc-parts}
 
 -- ---- dates
@@ -32,12 +32,12 @@ word-earlier s t p q (inl h) = omega (arith, month-of s p, day-of s p)
 word-earlier s t p q (inr (e, inl h)) = omega (arith, day-of s p)
 word-earlier s t p q (inr (e, inr (f, h))) = omega arith
 
-date-alike : (s t : Date) → IsDate s → IsDate t → order_of (dateWord s) (dateWord t) ≡ order_of (dayNumber s) (dayNumber t)
+date-alike : (s t : Date) → IsDate s → IsDate t → orderOf (dateWord s) (dateWord t) ≡ orderOf (dayNumber s) (dayNumber t)
 date-alike s t p q = go (date-order s t)
   where
-    go : Earlier s t ⊎ ((s ≡ t) ⊎ Earlier t s) → order_of (dateWord s) (dateWord t) ≡ order_of (dayNumber s) (dayNumber t)
+    go : Earlier s t ⊎ ((s ≡ t) ⊎ Earlier t s) → orderOf (dateWord s) (dateWord t) ≡ orderOf (dayNumber s) (dayNumber t)
     go (inl h) = order-less _ _ (word-earlier s t p q h) ∙ sym (order-less _ _ (day-number-mono s t p q h))
-    go (inr (inl e)) = order_same _ _ (ap dateWord e) ∙ sym (order_same _ _ (ap dayNumber e))
+    go (inr (inl e)) = order-same _ _ (ap dateWord e) ∙ sym (order-same _ _ (ap dayNumber e))
     go (inr (inr h)) = order-more _ _ (word-earlier t s q p h) ∙ sym (order-more _ _ (day-number-mono t s q p h))
 
 -- ---- dates and times
@@ -63,25 +63,25 @@ abbrev localSeconds : Fields → ℕ
 localSeconds f = minutesIn f * 60 + f.second
 
 module _ (f g : Fields) (p : IsLocalFields f) (q : IsLocalFields g) where
-  hours-alike : order_of (hourWord f) (hourWord g) ≡ order_of (hoursIn f) (hoursIn g)
+  hours-alike : orderOf (hourWord f) (hourWord g) ≡ orderOf (hoursIn f) (hoursIn g)
   hours-alike =
       let s = dateIn f in
       let t = dateIn g in
       digits-alike (2 ^ 5) 24 (dateWord s) (dateWord t) (dayNumber s) (dayNumber t) f.hour g.hour
       (omega arith) p.time.hours q.time.hours (date-alike s t p.time.date q.time.date)
 
-  minutes-alike : order_of (minuteWord f) (minuteWord g) ≡ order_of (minutesIn f) (minutesIn g)
+  minutes-alike : orderOf (minuteWord f) (minuteWord g) ≡ orderOf (minutesIn f) (minutesIn g)
   minutes-alike =
       digits-alike (2 ^ 6) 60 (hourWord f) (hourWord g) (hoursIn f) (hoursIn g) f.minute g.minute
       (omega arith) p.time.minutes q.time.minutes hours-alike
 
-  time-alike : order_of (timeWord f) (timeWord g) ≡ order_of (localSeconds f) (localSeconds g)
+  time-alike : orderOf (timeWord f) (timeWord g) ≡ orderOf (localSeconds f) (localSeconds g)
   time-alike =
       digits-alike (2 ^ 6) 60 (minuteWord f) (minuteWord g) (minutesIn f) (minutesIn g) f.second g.second
       (omega arith) (omega (arith, p.second)) (omega (arith, q.second)) minutes-alike
 
   -- what the same offset takes from both does not show
-  offset-alike : offsetIn f ≡ offsetIn g → order_of (timeWord f) (timeWord g) ≡ order_of (utcSeconds f) (utcSeconds g)
+  offset-alike : offsetIn f ≡ offsetIn g → orderOf (timeWord f) (timeWord g) ≡ orderOf (utcSeconds f) (utcSeconds g)
   offset-alike e =
       let u = ap up e in
       let d = ap down e in
@@ -93,51 +93,51 @@ module _ (f g : Fields) (p : IsLocalFields f) (q : IsLocalFields g) where
 abbrev pub cut : ℕ → ℕ
 cut w = w / 2 ^ 24
 
-cut_word : (f : Fields) → InRange f → cut (word_of f) ≡ timeWord f
-unfolding word_of
-cut_word f h = omega arith
+cut-word : (f : Fields) → InRange f → cut (wordOf f) ≡ timeWord f
+unfolding wordOf
+cut-word f h = omega arith
 
 -- what is cut off: the precision and what stands below
-abbrev low_word : Fields → ℕ
-low_word f = ((f.precision * 2 ^ 5 + f.digits) * 2 ^ 12 + f.offset.0) * 2 ^ 4
+abbrev lowWord : Fields → ℕ
+lowWord f = ((f.precision * 2 ^ 5 + f.digits) * 2 ^ 12 + f.offset.0) * 2 ^ 4
 
-low-word : (f : Fields) → InRange f → word_of f % 2 ^ 24 ≡ low_word f
-unfolding word_of
+low-word : (f : Fields) → InRange f → wordOf f % 2 ^ 24 ≡ lowWord f
+unfolding wordOf
 low-word f h = omega arith
 
 -- where that is the same the rest decides
-same_low : (v w : ℕ) → v % 2 ^ 24 ≡ w % 2 ^ 24 → order_of v w ≡ order_of (cut v) (cut w)
-same_low v w e = order_alike v w (cut v) (cut w) (λ h. omega arith) (λ h. omega arith) (λ h. omega arith)
+same-low : (v w : ℕ) → v % 2 ^ 24 ≡ w % 2 ^ 24 → orderOf v w ≡ orderOf (cut v) (cut w)
+same-low v w e = order-alike v w (cut v) (cut w) (λ h. omega arith) (λ h. omega arith) (λ h. omega arith)
 
 -- ---- accepted timestamps
 
-accepted-cut : {s : Timestamp} → Accepted s → cut (word_in s) ≡ timeWord (fields_of (word_in s))
-accepted-cut p = ap cut (sym (accepted-word p)) ∙ cut_word _ (valid-in-range p.fields)
+accepted-cut : {s : Timestamp} → Accepted s → cut (wordIn s) ≡ timeWord (fieldsOf (wordIn s))
+accepted-cut p = ap cut (sym (accepted-word p)) ∙ cut-word _ (valid-in-range p.fields)
 
-accepted-low : {s : Timestamp} → Accepted s → word_in s % 2 ^ 24 ≡ low_word (fields_of (word_in s))
+accepted-low : {s : Timestamp} → Accepted s → wordIn s % 2 ^ 24 ≡ lowWord (fieldsOf (wordIn s))
 accepted-low p = ap (λ (w : ℕ). w % 2 ^ 24) (sym (accepted-word p)) ∙ low-word _ (valid-in-range p.fields)
 
-module _ (s t : Timestamp) (p : Accepted s) (q : Accepted t) (e : (fields_of (word_in s)).offset.0 ≡ (fields_of (word_in t)).offset.0) where
+module _ (s t : Timestamp) (p : Accepted s) (q : Accepted t) (e : (fieldsOf (wordIn s)).offset.0 ≡ (fieldsOf (wordIn t)).offset.0) where
   -- the cut words lie as the instants do
-  cut-alike : order_of (cut (word_in s)) (cut (word_in t)) ≡ order_of (utcSeconds (fields_of (word_in s))) (utcSeconds (fields_of (word_in t)))
+  cut-alike : orderOf (cut (wordIn s)) (cut (wordIn t)) ≡ orderOf (utcSeconds (fieldsOf (wordIn s))) (utcSeconds (fieldsOf (wordIn t)))
   cut-alike =
-      let o = ap (λ (n : ℕ). minutesOf (offset_of (rawOffset n))) e in
-      ap₂ order_of (accepted-cut p) (accepted-cut q) ∙ offset-alike _ _ (valid-local p.fields) (valid-local q.fields) o
+      let o = ap (λ (n : ℕ). minutesOf (offsetOf (rawOffset n))) e in
+      ap₂ orderOf (accepted-cut p) (accepted-cut q) ∙ offset-alike _ _ (valid-local p.fields) (valid-local q.fields) o
 
-  pub cut-order : orderOfPairs (cut (word_in s)) s.attoseconds (cut (word_in t)) t.attoseconds ≡ order_of (count_of s) (count_of t)
-  unfolding count_of
+  pub cut-order : orderOfPairs (cut (wordIn s)) s.attoseconds (cut (wordIn t)) t.attoseconds ≡ orderOf (countOf s) (countOf t)
+  unfolding countOf
   cut-order =
-      pairs_like (10 ^ 18) (utcSeconds (fields_of (word_in s))) (utcSeconds (fields_of (word_in t))) s.attoseconds t.attoseconds
-      p.fields.attoseconds q.fields.attoseconds (cut (word_in s)) (cut (word_in t)) cut-alike
+      pairs-like (10 ^ 18) (utcSeconds (fieldsOf (wordIn s))) (utcSeconds (fieldsOf (wordIn t))) s.attoseconds t.attoseconds
+      p.fields.attoseconds q.fields.attoseconds (cut (wordIn s)) (cut (wordIn t)) cut-alike
 
   -- with the same precision and digits too, whole words do
   pub word-order :
-      (fields_of (word_in s)).precision ≡ (fields_of (word_in t)).precision →
-      (fields_of (word_in s)).digits ≡ (fields_of (word_in t)).digits →
-      orderOfPairs (word_in s) s.attoseconds (word_in t) t.attoseconds ≡ order_of (count_of s) (count_of t)
+      (fieldsOf (wordIn s)).precision ≡ (fieldsOf (wordIn t)).precision →
+      (fieldsOf (wordIn s)).digits ≡ (fieldsOf (wordIn t)).digits →
+      orderOfPairs (wordIn s) s.attoseconds (wordIn t) t.attoseconds ≡ orderOf (countOf s) (countOf t)
   word-order h k =
-      let v = word_in s in
-      let w = word_in t in
+      let v = wordIn s in
+      let w = wordIn t in
       let l = accepted-low p in
       let r = accepted-low q in
-      pairs-alike v w (cut v) (cut w) s.attoseconds t.attoseconds (same_low v w (omega arith)) ∙ cut-order
+      pairs-alike v w (cut v) (cut w) s.attoseconds t.attoseconds (same-low v w (omega arith)) ∙ cut-order

@@ -1,10 +1,12 @@
 // Order, equality and distance of two timestamps, the first checked before the second.
+#![tactic(auto)]
+
 mod accepted;
 mod counts;
 mod seconds;
 
 ghost use Rattle.std.specs.Prelude.{◌≡◌};
-ghost use Rattle.ion.specs.Calls.Order.{checkBoth, cmpOf, eqOf, ionEqOf, ionCmpOf, distance_of};
+ghost use Rattle.ion.specs.Calls.Order.{checkBoth, cmpOf, eqOf, ionEqOf, ionCmpOf, distanceOf};
 
 use accepted::{distance_of, order_of};
 use counts::order_of_pairs;
@@ -95,7 +97,7 @@ pub fn ion_cmp(s: Timestamp, t: Timestamp) -> Ordered
 
 // The sign of the first less the second, and the size of the difference.
 pub fn distance(s: Timestamp, t: Timestamp) -> Distance
-    ensures { result ≡ distance_of s t }
+    ensures { result ≡ distanceOf s t }
 {
     let n = check_both(s, t);
     if n != 0 {

@@ -1,15 +1,15 @@
 // Whole seconds of two timestamps by the local clock of the first: the difference of their offsets is added to the second.
 ghost use Rattle.std.specs.Prelude.{◌≡◌, ◌^◌, ◌<◌, nat_abs};
 ghost use Rattle.ion.specs.Calls.Accepted.{timeIn, Accepted};
-ghost use Rattle.ion.specs.Pair.Pair.{word_in};
+ghost use Rattle.ion.specs.Pair.Pair.{wordIn};
 ghost use Rattle.ion.specs.Calendar.Shift.{minuteNumber};
-ghost use Rattle.ion.specs.Pair.Word.{fields_of};
+ghost use Rattle.ion.specs.Pair.Word.{fieldsOf};
 ghost use Rattle.order.specs.Local.{IsLocalFields, secondsAt, offsetDifference, secondsOfBoth};
 
 use ion::{Date, Fields, Timestamp, offset};
 
 // Those of a first and of a second timestamp.
-#[derive(Drop)]
+#[derive(Clone, Copy)]
 pub(crate) struct Seconds {
     pub first: u64,
     pub second: u64,
@@ -51,7 +51,7 @@ fn seconds_at(f: Fields, ahead: i32) -> u64
 // Those of two accepted timestamps.
 pub(crate) fn seconds_of_both(s: Timestamp, t: Timestamp) -> Seconds
     requires { Accepted s × Accepted t }
-    ensures { result ≡ secondsOfBoth (fields_of (word_in s)) (fields_of (word_in t)) }
+    ensures { result ≡ secondsOfBoth (fieldsOf (wordIn s)) (fieldsOf (wordIn t)) }
 {
     let f = packed::unpack(s.packed_fields);
     let g = packed::unpack(t.packed_fields);

@@ -8,10 +8,10 @@ use lib.ListN.{length, length-append, length-drop, take, drop, take-append-drop}
 use lib.Seq.{drop-drop, take_at, drop-append-le}
 use Rattle.places.specs.Padded.{lastBytes}
 use Rattle.ion.specs.Calls.Output.{over, Run, Between}
-use Rattle.output.proofs.Stores.{take-over, drop-there, over-over, over-before, length_over}
+use Rattle.output.proofs.Stores.{take-over, drop-there, over-over, over-before, length-over}
 
-pub run_none : (d : List ℕ) (at : ℕ) → Run d at [] d at
-run_none d at = record { bytes = rw (add-zero at) (sym (take-append-drop at d)); next = omega arith }
+pub run-none : (d : List ℕ) (at : ℕ) → Run d at [] d at
+run-none d at = record { bytes = rw (add-zero at) (sym (take-append-drop at d)); next = omega arith }
 
 pub run-two : {d e f : List ℕ} {a b c : ℕ} {s t : List ℕ} → Run d a s e b → Run e b t f c → c ≤ length d → Run d a (s ++ t) f c
 run-two {d} {e} {f} {a} {b} {c} {s} {t} g h l =
@@ -32,8 +32,8 @@ run-before {d} {e} {f} {a} {b} {c} {r} {s} {t} g h q l =
       next = omega (arith, g.next, length-append s t);
     }
 
-pub run_is : {d e : List ℕ} {a c : ℕ} {s t : List ℕ} → Run d a s e c → s ≡ t → Run d a t e c
-run_is {d} {e} {a} {c} {s} {t} g q = record { bytes = g.bytes ∙ ap (over d a) q; next = g.next ∙ ap (λ (l : List ℕ). a + length l) q }
+pub run-is : {d e : List ℕ} {a c : ℕ} {s t : List ℕ} → Run d a s e c → s ≡ t → Run d a t e c
+run-is {d} {e} {a} {c} {s} {t} g q = record { bytes = g.bytes ∙ ap (over d a) q; next = g.next ∙ ap (λ (l : List ℕ). a + length l) q }
 
 -- what stands before the end
 pub run-front : {d e : List ℕ} {a c : ℕ} {s : List ℕ} → Run d a s e c → a ≤ length d → take c e ≡ take a d ++ s
@@ -49,7 +49,7 @@ run-last {d} {e} {a} {c} {s} g l k h =
     let n : c - (c - k) ≡ k = omega (arith, g.next) in
     record {
       from = omega arith;
-      to = rw (g.bytes, length_over d a s (omega (arith, g.next))) l;
+      to = rw (g.bytes, length-over d a s (omega (arith, g.next))) l;
       bytes =
           rw (n, i, g.bytes)
           (ap (take k)
@@ -70,8 +70,8 @@ module _ {d s t u : List ℕ} {at : ℕ} (r : Room d at s t u) where
   pub room-first : at + length s ≤ length d
   room-first = omega (arith, r.room, ap length r.is, length-append s t)
 
-  pub room_next : {e : List ℕ} {b : ℕ} → Run d at s e b → b + length t ≤ length d
-  room_next g = omega (arith, r.room, ap length r.is, length-append s t, g.next)
+  pub room-next : {e : List ℕ} {b : ℕ} → Run d at s e b → b + length t ≤ length d
+  room-next g = omega (arith, r.room, ap length r.is, length-append s t, g.next)
 
   pub run-both : {e f : List ℕ} {b c : ℕ} → Run d at s e b → Run e b t f c → Run d at u f c
-  run-both g h = run_is (run-two g h (omega (arith, room_next g, h.next))) (sym r.is)
+  run-both g h = run-is (run-two g h (omega (arith, room-next g, h.next))) (sym r.is)

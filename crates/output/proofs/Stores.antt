@@ -16,9 +16,9 @@ use Rattle.ion.specs.declared.Written.{Written}
 
 -- ---- a writer's answer and its buffer
 
-pub room_fits : (size at n : ℕ) → at + n ≤ size → roomFor size at n ≡ record { number = 0; written = n }
+pub room-fits : (size at n : ℕ) → at + n ≤ size → roomFor size at n ≡ record { number = 0; written = n }
 unfolding roomFor
-room_fits size at n h = rw (le-leb (at + n) size h)
+room-fits size at n h = rw (le-leb (at + n) size h)
 
 pub room-short : (size at n : ℕ) → size < at + n → roomFor size at n ≡ refusedWriting shortBuffer
 unfolding roomFor
@@ -35,8 +35,8 @@ put-short d at s h = rw (lt-leb (at + length s) (length d) h)
 
 -- what every writer of the bytes s shows: w is what `room` answered for them, and so what the writer answers
 module _ (d : List ℕ) (at : ℕ) (s : List ℕ) {w : Written} (answered : w ≡ wrote d at s) where
-  pub has_room : w.number ≡ 0 → at + length s ≤ length d
-  has_room e = go (dec_le (at + length s) (length d))
+  pub has-room : w.number ≡ 0 → at + length s ≤ length d
+  has-room e = go (dec_le (at + length s) (length d))
     where
       go : Dec (at + length s ≤ length d) → at + length s ≤ length d
       go (yes h) = h
@@ -45,18 +45,18 @@ module _ (d : List ℕ) (at : ℕ) (s : List ℕ) {w : Written} (answered : w �
           let z : shortBuffer ≡ 0 = sym (ap (λ (x : Written). x.number) short) ∙ e in
           absurd (omega arith)
 
-  no_room : (w.number ≡ 0 → ⊥) → length d < at + length s
-  no_room e = go (dec_le (at + length s) (length d))
+  no-room : (w.number ≡ 0 → ⊥) → length d < at + length s
+  no-room e = go (dec_le (at + length s) (length d))
     where
       go : Dec (at + length s ≤ length d) → length d < at + length s
-      go (yes h) = absurd (e (ap (λ (x : Written). x.number) (answered ∙ room_fits (length d) at (length s) h)))
+      go (yes h) = absurd (e (ap (λ (x : Written). x.number) (answered ∙ room-fits (length d) at (length s) h)))
       go (no h) = omega arith
 
   pub refused-writing : (w.number ≡ 0 → ⊥) → (w ≡ wrote d at s) × (d ≡ put d at s)
-  refused-writing e = (answered, sym (put-short d at s (no_room e)))
+  refused-writing e = (answered, sym (put-short d at s (no-room e)))
 
   pub written : {e : List ℕ} → w.number ≡ 0 → e ≡ over d at s → (w ≡ wrote d at s) × (e ≡ put d at s)
-  written z p = (answered, p ∙ sym (put-fits d at s (has_room z)))
+  written z p = (answered, p ∙ sym (put-fits d at s (has-room z)))
 
 -- a writer that first makes a check, which gave the number n
 module _ (n : ℕ) (d : List ℕ) (at : ℕ) (s : List ℕ) where
@@ -99,8 +99,8 @@ drop-over d at s n e h =
     rw (← append_assoc (take at d) s (drop (at + length s) d), ← e)
     (drop_at (take at d ++ s) (drop (at + length s) d) (at + length s) (simp (length-append, length-take-le at d h)))
 
-pub length_over : (d : List ℕ) (at : ℕ) (s : List ℕ) → at + length s ≤ length d → length (over d at s) ≡ length d
-length_over d at s h = simp (length-append, length-take-le at d (omega arith), length-drop) (omega arith)
+pub length-over : (d : List ℕ) (at : ℕ) (s : List ℕ) → at + length s ≤ length d → length (over d at s) ≡ length d
+length-over d at s h = simp (length-append, length-take-le at d (omega arith), length-drop) (omega arith)
 
 -- one run of bytes after another
 pub over-over : (d : List ℕ) (at : ℕ) (s t : List ℕ) (n : ℕ) → length s ≡ n → at + n + length t ≤ length d
@@ -192,7 +192,7 @@ module _ {d : List ℕ} {at : ℕ} {s : List ℕ} {n : ℕ} {w : Written} (a : A
   asked-wrote = a.answer ∙ ap (roomFor (length d) at) a.size
 
   pub asked-room : w.number ≡ 0 → at + n ≤ length d
-  asked-room z = omega (arith, has_room d at s asked-wrote z, a.size)
+  asked-room z = omega (arith, has-room d at s asked-wrote z, a.size)
 
   pub asked-refused : (w.number ≡ 0 → ⊥) → (w ≡ wrote d at s) × (d ≡ put d at s)
   asked-refused z = refused-writing d at s asked-wrote z

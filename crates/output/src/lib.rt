@@ -1,4 +1,6 @@
 // Writing into a lent buffer at a position: the one test for room, and the one copy.
+#![tactic(auto)]
+
 ghost use Rattle.std.specs.Prelude.{◌≡◌, ◌+◌, ◌≤◌, length};
 ghost use Rattle.ion.specs.Calls.Output.{over, put, roomFor, wrote};
 

@@ -9,10 +9,10 @@ use native.Mathlib.Omega.{arith}
 use lib.Dec.{lit<}
 use lib.Arith.{digits_lt}
 use lib.Pow.{pow-add, high, low, mod-pow-add}
-use Rattle.ion.specs.Pair.Layout.{total, join, parts, field_at, Within, Before}
+use Rattle.ion.specs.Pair.Layout.{total, join, parts, fieldAt, Within, Before}
 
 -- the field of k bits between what stands above it and s bits below
-field-at : (hi x lo s k : ℕ) → x < 2 ^ k → lo < 2 ^ s → field_at s k ((hi * 2 ^ k + x) * 2 ^ s + lo) ≡ x
+field-at : (hi x lo s k : ℕ) → x < 2 ^ k → lo < 2 ^ s → fieldAt s k ((hi * 2 ^ k + x) * 2 ^ s + lo) ≡ x
 field-at hi x lo s k hx hl = ap (λ (n : ℕ). n % 2 ^ k) (high (hi * 2 ^ k + x) s hl) ∙ low hi k hx
 
 -- the first value joined to what stands above it
@@ -30,13 +30,13 @@ parts-above (k ∷ ks) (x ∷ xs) hi h =
     ∙ ap₂ ◌∷◌ (field-at hi x (join ks xs) (total ks) k h.0 (join-lt ks xs h.1)) (parts-above ks xs (hi * 2 ^ k + x) h.1)
 
 -- what is read is what was put in
-pub parts_join : (ks xs : List ℕ) → Within ks xs → parts ks (join ks xs) ≡ xs
-parts_join ks xs h = ap (parts ks) (omega arith) ∙ parts-above ks xs 0 h
+pub parts-join : (ks xs : List ℕ) → Within ks xs → parts ks (join ks xs) ≡ xs
+parts-join ks xs h = ap (parts ks) (omega arith) ∙ parts-above ks xs 0 h
 
 -- what is read makes up the word again, up to the bits above all the fields
 pub join-parts : (ks : List ℕ) (w : ℕ) → join ks (parts ks w) ≡ w % 2 ^ total ks
 join-parts [] w = sym (mod-one w)
-join-parts (k ∷ ks) w = ap (λ (n : ℕ). field_at (total ks) k w * 2 ^ total ks + n) (join-parts ks w) ∙ sym (mod-pow-add w k (total ks))
+join-parts (k ∷ ks) w = ap (λ (n : ℕ). fieldAt (total ks) k w * 2 ^ total ks + n) (join-parts ks w) ∙ sym (mod-pow-add w k (total ks))
 
 -- the order of words is that of the first field that differs
 pub join-before : (ks xs ys : List ℕ) → Within ks xs → Within ks ys → Before xs ys → join ks xs < join ks ys

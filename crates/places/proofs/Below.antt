@@ -9,8 +9,8 @@ module _ (b : ℕ) where
   abbrev pub Below : List ℕ → Type 0
   Below s = (i : ℕ) → get_or s i 0 < b
 
-  pub below_none : 0 < b → Below []
-  below_none h i = h
+  pub below-none : 0 < b → Below []
+  below-none h i = h
 
   pub below-cons : (d : ℕ) (s : List ℕ) → d < b → Below s → Below (d ∷ s)
   below-cons d s h k zero = h
@@ -24,7 +24,7 @@ module _ (b : ℕ) where
   below-drop n s h i = rw (get_or-drop n s i 0) (h (n + i))
 
   pub below-take : (n : ℕ) (s : List ℕ) → 0 < b → Below s → Below (take n s)
-  below-take zero s h k = below_none h
+  below-take zero s h k = below-none h
   below-take (suc n) [] h k = k
   below-take (suc n) (d ∷ s) h k = below-cons d (take n s) (k 0) (below-take n s h (λ i. k (suc i)))
 
@@ -39,6 +39,6 @@ module _ (b : ℕ) where
   Each [] = 0 < b
   Each (d ∷ s) = (d < b) × Each s
 
-  pub each_below : (s : List ℕ) → Each s → Below s
-  each_below [] h = below_none h
-  each_below (d ∷ s) h = below-cons d s h.0 (each_below s h.1)
+  pub each-below : (s : List ℕ) → Each s → Below s
+  each-below [] h = below-none h
+  each-below (d ∷ s) h = below-cons d s h.0 (each-below s h.1)

@@ -6,7 +6,7 @@ use native.Mathlib.Omega.{arith}
 use lib.Count.{count_leading_zeros, leading_length}
 use lib.Pow.{pow_pos, pow-add, pow_mono, pow-lt}
 use Rattle.places.specs.Places.{placeCount}
-use Rattle.places.proofs.Laws.{fewest, place-some, place_is}
+use Rattle.places.proofs.Laws.{fewest, place-some, place-is}
 
 pow-mul : (k n : ℕ) → 2 ^ (k * n) ≡ (2 ^ k) ^ n
 pow-mul k zero = ap (λ (m : ℕ). 2 ^ m) (mul-zero k) ∙ sym (pow-zero (2 ^ k))
@@ -35,7 +35,7 @@ module _ (k : ℕ) (hk : 0 < k) where
       let up : 2 ^ suc c ≤ 2 ^ (k * suc n) = pow_mono (omega arith) in
       let down : 2 ^ (k * n) ≤ 2 ^ c = pow_mono (omega arith) in
       let z : suc c - 1 ≡ c = omega arith in
-      rw z (place_is (2 ^ k) above n v (omega (arith, pow-mul k n, pow-suc 2 c)) (omega (arith, pow-mul k (suc n))))
+      rw z (place-is (2 ^ k) above n v (omega (arith, pow-mul k n, pow-suc 2 c)) (omega (arith, pow-mul k (suc n))))
 
   pub zeros-places : (w v : ℕ) → v < 2 ^ w → placeCount (2 ^ k) v ≡ suc ((w - count_leading_zeros w v - 1) / k)
   zeros-places w v h =

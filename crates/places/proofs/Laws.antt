@@ -46,8 +46,8 @@ module _ (b : ℕ) (hb : 1 < b) where
   up n q h = rw (pow-suc b n) ((div-lt_iff_lt-mul pos).0 h)
 
   -- without its lowest place and then without k more
-  div_power : (k n : ℕ) → n / b / b ^ k ≡ n / b ^ suc k
-  div_power k n = div-div-eq-div-mul n b (b ^ k) ∙ ap (λ (m : ℕ). n / m) (sym (pow-succ' b k))
+  div-power : (k n : ℕ) → n / b / b ^ k ≡ n / b ^ suc k
+  div-power k n = div-div-eq-div-mul n b (b ^ k) ∙ ap (λ (m : ℕ). n / m) (sym (pow-succ' b k))
 
   less : (q : ℕ) → suc q / b ≤ q
   less q = omega (arith, div-lt_self {n = suc q} (omega arith) hb)
@@ -79,10 +79,10 @@ module _ (b : ℕ) (hb : 1 < b) where
   unfolding count countIn
   count-zero = refl
 
-  pub count_next : (q : ℕ) → 0 < q → count b q ≡ suc (count b (q / b))
+  pub count-next : (q : ℕ) → 0 < q → count b q ≡ suc (count b (q / b))
   unfolding count countIn
-  count_next zero h = absurd (omega arith)
-  count_next (suc q) h = ap suc (count-fuel q (suc q / b) (suc q / b) (less q) (omega arith))
+  count-next zero h = absurd (omega arith)
+  count-next (suc q) h = ap suc (count-fuel q (suc q / b) (suc q / b) (less q) (omega arith))
 
   -- the places hold the number, and no fewer do
   pub count-holds : (q : ℕ) → q < b ^ count b q
@@ -127,7 +127,7 @@ module _ (b : ℕ) (hb : 1 < b) where
   -- a number without its lowest place has one place fewer, until no number is left
   pub place-next : (n : ℕ) → 0 < n / b → placeCount b n ≡ 1 + placeCount b (n / b)
   unfolding placeCount
-  place-next n h = omega (arith, count_next (n / b) h)
+  place-next n h = omega (arith, count-next (n / b) h)
 
   pub place-last : (n : ℕ) → n / b ≡ 0 → placeCount b n ≡ 1
   unfolding placeCount
@@ -138,14 +138,14 @@ module _ (b : ℕ) (hb : 1 < b) where
   place-split zero n h = rw (pow-zero b, div-one) (sym (zero-add (placeCount b n)))
   place-split (suc k) n h =
       let l : b ^ k ≤ n / b = (le-div_iff_mul-le pos).1 (rw (pow-suc b k) at h) in
-      rw (← div_power k n) (omega (arith, place-next n (omega (arith, above k)), place-split k (n / b) l))
+      rw (← div-power k n) (omega (arith, place-next n (omega (arith, above k)), place-split k (n / b) l))
 
   pub place-monotone : (m n : ℕ) → m ≤ n → placeCount b m ≤ placeCount b n
   place-monotone m n h = fewest (placeCount b n) m (place-some n) (lt_of_le_of_lt h (held n))
 
-  pub place_is : (n m : ℕ) → b ^ n ≤ m → m < b ^ suc n → placeCount b m ≡ suc n
+  pub place-is : (n m : ℕ) → b ^ n ≤ m → m < b ^ suc n → placeCount b m ≡ suc n
   unfolding placeCount
-  place_is n m l h = ap suc (count-unique n (m / b) (down n m h) (omega (arith, div-add-mod' m b, mod-lt m pos, mul_comm b (m / b))))
+  place-is n m l h = ap suc (count-unique n (m / b) (down n m h) (omega (arith, div-add-mod' m b, mod-lt m pos, mul_comm b (m / b))))
 
   -- ---- the last places
 
@@ -153,7 +153,7 @@ module _ (b : ℕ) (hb : 1 < b) where
     pub places-add : (j k q : ℕ) (t : List ℕ) → placesOn b f (j + k) q t ≡ placesOn b f j (q / b ^ k) (placesOn b f k q t)
     unfolding placesOn
     places-add j zero q t = rw (add-zero, pow-zero b, div-one)
-    places-add j (suc k) q t = rw (add-suc, ← div_power k q) (places-add j k (q / b) (f (q % b) ∷ t))
+    places-add j (suc k) q t = rw (add-suc, ← div-power k q) (places-add j k (q / b) (f (q % b) ∷ t))
 
     pub places-mod : (k n : ℕ) (t : List ℕ) → placesOn b f k (n % b ^ k) t ≡ placesOn b f k n t
     unfolding placesOn
@@ -172,16 +172,16 @@ module _ (b : ℕ) (hb : 1 < b) where
     -- ---- the law of the value: the k places of a number below b ^ k make it up again
 
     module _ (g : ℕ → ℕ) (inv : (d : ℕ) → d < b → g (f d) ≡ d) where
-      pub value_on : (k q : ℕ) (t : List ℕ) → q < b ^ k → valueFrom b g 0 (placesOn b f k q t) ≡ valueFrom b g q t
+      pub value-on : (k q : ℕ) (t : List ℕ) → q < b ^ k → valueFrom b g 0 (placesOn b f k q t) ≡ valueFrom b g q t
       unfolding placesOn valueFrom
-      value_on zero q t h = ap (λ (x : ℕ). valueFrom b g x t) (omega (arith, pow-zero b))
-      value_on (suc k) q t h =
-          value_on k (q / b) (f (q % b) ∷ t) (down k q h)
+      value-on zero q t h = ap (λ (x : ℕ). valueFrom b g x t) (omega (arith, pow-zero b))
+      value-on (suc k) q t h =
+          value-on k (q / b) (f (q % b) ∷ t) (down k q h)
           ∙ rw (inv (q % b) (mod-lt q pos), div-add-mod' q b)
 
       pub value-places : (k n : ℕ) → n < b ^ k → valueFrom b g 0 (places b f k n) ≡ n
       unfolding places valueFrom
-      value-places k n h = value_on k n [] h
+      value-places k n h = value-on k n [] h
 
 -- ---- the loop that stores from the back
 

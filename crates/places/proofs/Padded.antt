@@ -20,8 +20,8 @@ module _ (b : ℕ) (f : ℕ → ℕ) where
   places-padded w n k e = ap (λ (m : ℕ). places b f m n) e
 
   module _ (hb : 1 < b) where
-    power_pos : (k : ℕ) → 0 < b ^ k
-    power_pos k = one-le-pow k b (omega arith)
+    power-pos : (k : ℕ) → 0 < b ^ k
+    power-pos k = one-le-pow k b (omega arith)
 
     -- a number below b ^ w takes w places
     pub padded-places : (w n : ℕ) → 1 ≤ w → n < b ^ w → paddedPlaces b f w n ≡ places b f w n
@@ -30,7 +30,7 @@ module _ (b : ℕ) (f : ℕ → ℕ) where
     -- k places of n are the remainder by b ^ k
     padded-rest : (k n : ℕ) → 1 ≤ k → paddedPlaces b f k (n % b ^ k) ≡ places b f k n
     unfolding places
-    padded-rest k n l = padded-places k (n % b ^ k) l (mod-lt n (power_pos k)) ∙ places-mod b hb f k n []
+    padded-rest k n l = padded-places k (n % b ^ k) l (mod-lt n (power-pos k)) ∙ places-mod b hb f k n []
 
     pub last-places : (w n : ℕ) → LastPlaces b f w n
     unfolding paddedPlaces
@@ -45,7 +45,7 @@ module _ (b : ℕ) (f : ℕ → ℕ) where
         → paddedPlaces b f j (n / b ^ k) ++ paddedPlaces b f k (n % b ^ k) ≡ paddedPlaces b f (j + k) n
     unfolding places
     padded-split j k n h l m =
-        let t : n / b ^ k < b ^ j = (div-lt_iff_lt-mul (power_pos k)).1 (rw (pow-add b j k) at m) in
+        let t : n / b ^ k < b ^ j = (div-lt_iff_lt-mul (power-pos k)).1 (rw (pow-add b j k) at m) in
         ap₂ ◌++◌ (padded-places j (n / b ^ k) h t) (padded-rest k n l)
         ∙ places-append b f j (n / b ^ k) [] (places b f k n)
         ∙ sym (padded-places (j + k) n (omega arith) m ∙ places-add b hb f j k n [])

@@ -46,16 +46,16 @@ module _ (b : ℕ) where
         ∙ append-nil s
 
     -- they make less than b to their number
-    below_next : (v : ℕ) (s : List ℕ) → Bytes s → valueFrom b g v s < suc v * b ^ length s
+    below-next : (v : ℕ) (s : List ℕ) → Bytes s → valueFrom b g v s < suc v * b ^ length s
     unfolding valueFrom
-    below_next v [] h = rw (pow-zero b, mul-one) (omega arith)
-    below_next v (c ∷ r) h =
+    below-next v [] h = rw (pow-zero b, mul-one) (omega arith)
+    below-next v (c ∷ r) h =
         let p = b ^ length r in
         let l : suc (v * b + g c) ≤ suc v * b = digits_lt (omega arith) h.0.0 in
-        rw (power-more b (suc v) (length r)) (lt_of_lt_of_le (below_next (v * b + g c) r h.1) (mul-le-mul_right p l))
+        rw (power-more b (suc v) (length r)) (lt_of_lt_of_le (below-next (v * b + g c) r h.1) (mul-le-mul_right p l))
 
-    pub bytes_below : (s : List ℕ) → Bytes s → valueFrom b g 0 s < b ^ length s
-    bytes_below s h = rw (one-mul (b ^ length s)) at (below_next 0 s h)
+    pub bytes-below : (s : List ℕ) → Bytes s → valueFrom b g 0 s < b ^ length s
+    bytes-below s h = rw (one-mul (b ^ length s)) at (below-next 0 s h)
 
   -- ---- places that are their own bytes
 

@@ -6,7 +6,7 @@ use native.Mathlib.Omega.{arith}
 use lib.ListN.{length, length-append}
 use Rattle.ion.specs.Numbers.VarUInt.{varuint, groupCount}
 use Rattle.ion.specs.Calls.Output.{over, Run}
-use Rattle.output.proofs.Stores.{length_over}
+use Rattle.output.proofs.Stores.{length-over}
 use Rattle.output.proofs.Runs.{run-two}
 use Rattle.binary.proofs.VarUInts.{length-varuint}
 
@@ -25,15 +25,15 @@ pub record RoomFor (d : List ℕ) (at tag guard : ℕ) (v : List ℕ) : Type 0 w
 
 module _ {d e : List ℕ} {at b tag guard : ℕ} {v : List ℕ} (r : RoomFor d at tag guard v) (first : Run d at (varuint tag) e b) where
   size : length e ≡ length d
-  size = ap length first.bytes ∙ length_over d at (varuint tag) (omega (arith, r.room, length-varuint tag))
+  size = ap length first.bytes ∙ length-over d at (varuint tag) (omega (arith, r.room, length-varuint tag))
 
   pub guard-room : b + groupCount guard ≤ length e
   guard-room = omega (arith, r.room, size, first.next, length-varuint tag)
 
   module _ {f : List ℕ} {c : ℕ} (second : Run e b (varuint guard) f c) where
-    pub value_room : c + length v ≤ length f
-    value_room =
-        let same = ap length second.bytes ∙ length_over e b (varuint guard) (omega (arith, length-varuint guard, guard-room)) in
+    pub value-room : c + length v ≤ length f
+    value-room =
+        let same = ap length second.bytes ∙ length-over e b (varuint guard) (omega (arith, length-varuint guard, guard-room)) in
         omega (arith, r.room, same, size, first.next, second.next, length-varuint tag, length-varuint guard)
 
     pub parts-put : over f c v ≡ over d at (partsBytes tag guard v)

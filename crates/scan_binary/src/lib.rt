@@ -1,4 +1,6 @@
 // Scans in bytes: written, read, and a whole file of them.
+#![tactic(auto)]
+
 mod file;
 mod reader;
 mod writer;

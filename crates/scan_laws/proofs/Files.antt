@@ -6,10 +6,10 @@ use native.Mathlib.Omega.{arith}
 use lib.ListN.{length, length-append}
 use Rattle.places.proofs.Below.{Below}
 use Rattle.ion.specs.Calls.Output.{over}
-use Rattle.ion.specs.Calls.Contents.{Contents, contentsWith, in_turn}
+use Rattle.ion.specs.Calls.Contents.{Contents, contentsWith, inTurn}
 use Rattle.ion.specs.declared.Written.{Written}
-use Rattle.output.proofs.Stores.{room_fits, put-fits, wrote-passed, put-passed, length_over, over-over}
-use Rattle.output.proofs.Runs.{run_none}
+use Rattle.output.proofs.Stores.{room-fits, put-fits, wrote-passed, put-passed, length-over, over-over}
+use Rattle.output.proofs.Runs.{run-none}
 use Rattle.timestamp.proofs.Accepts.{check-zero}
 use Rattle.contents.proofs.Items.{allBefore}
 use Rattle.contents.proofs.Written.{AllStored, contents-written, contents-back, contents-again, contents-stored}
@@ -31,16 +31,16 @@ module _ (xs : List Scan) (p : AllStored Stored xs) where
 -- calls of the writer, one after another, write the file where there is room for it
 pub calls-written : (xs : List Scan) → AllStored Stored xs → (d : List ℕ) (at : ℕ) → at + length (fileBytes xs) ≤ length d
     → writtenInTurn d at xs ≡ over d at (fileBytes xs)
-unfolding writtenInTurn fileBytes in_turn scanNumber
-calls-written [] p d at h = (run_none d at).bytes
+unfolding writtenInTurn fileBytes inTurn scanNumber
+calls-written [] p d at h = (run-none d at).bytes
 calls-written (x ∷ xs) p d at h =
     let b = scanBytes x in
     let n = length-append b (fileBytes xs) in
     let z = check-zero x.stamp p.0.stamp in
-    let w = ap (λ (w : Written). w.written) (wrote-passed _ d at b z ∙ room_fits (length d) at (length b) (omega (arith, n))) in
+    let w = ap (λ (w : Written). w.written) (wrote-passed _ d at b z ∙ room-fits (length d) at (length b) (omega (arith, n))) in
     let e = put-passed _ d at b z ∙ put-fits d at b (omega (arith, n)) in
     ap₂ (λ (f : List ℕ) (k : ℕ). writtenInTurn f (at + k) xs) e w
-    ∙ calls-written xs p.1 (over d at b) (at + length b) (omega (arith, n, length_over d at b (omega (arith, n))))
+    ∙ calls-written xs p.1 (over d at b) (at + length b) (omega (arith, n, length-over d at b (omega (arith, n))))
     ∙ over-over d at b (fileBytes xs) (length b) refl (omega (arith, n))
 
 module _ (s : List ℕ) (b : Below 256 s) where

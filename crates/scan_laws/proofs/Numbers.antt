@@ -20,8 +20,8 @@ pub five-groups : groupCount largest ≡ 5
 unfolding placeCount count countIn
 five-groups = refl
 
-pub number_size : (v : ℕ) → v ≤ largest → (1 ≤ length (varuint v)) × (length (varuint v) ≤ 5)
-number_size v h = (omega (arith, length-varuint v, count-some v), omega (arith, length-varuint v, count-shortest 4 v (omega arith)))
+pub number-size : (v : ℕ) → v ≤ largest → (1 ≤ length (varuint v)) × (length (varuint v) ≤ 5)
+number-size v h = (omega (arith, length-varuint v, count-some v), omega (arith, length-varuint v, count-shortest 4 v (omega arith)))
 
 -- a number is read back, whatever follows it
 pub number-back : (v : ℕ) (r : List ℕ) → v ≤ largest → readNumber (varuint v ++ r) ≡ acceptedNumber v (length (varuint v))
@@ -50,8 +50,8 @@ module _ (s : List ℕ) where
 
   -- ---- accepted
 
-  pub number_is : Below 256 s → (readNumber s).number ≡ 0 → NumberAs s (readNumber s)
-  number_is b =
+  pub number-is : Below 256 s → (readNumber s).number ≡ 0 → NumberAs s (readNumber s)
+  number-is b =
       by-found (λ r. r.number ≡ 0 → NumberAs s r) (λ v n q e. found v n q) (λ q e. absurd (omega arith)) (λ q e. absurd (omega arith))
     where
       found : (v n : ℕ) → readVarUInt largest s ≡ Value v n → NumberAs s (acceptedNumber v n)
@@ -67,9 +67,9 @@ module _ (s : List ℕ) where
 
   -- ---- refused: 13 exactly where it is cut short, 19 exactly where it is unreadable, and nothing else
 
-  pub number_cut : ((readNumber s).number ≡ inputEnds → CutShort largest s) × (CutShort largest s → readNumber s ≡ refusedNumber inputEnds)
+  pub number-cut : ((readNumber s).number ≡ inputEnds → CutShort largest s) × (CutShort largest s → readNumber s ≡ refusedNumber inputEnds)
   unfolding readNumber
-  number_cut = (
+  number-cut = (
     by-found (λ r. r.number ≡ inputEnds → CutShort largest s) (λ v n q e. absurd (omega arith)) (λ q e. cut-read largest s q)
         (λ q e. absurd (omega arith)),
     (λ c. ap numberFrom (read-cut largest s c)),

@@ -86,8 +86,8 @@ module _ (s : List ℕ) where
     not-refused zero h = refl
     not-refused (suc n) h = ap (λ (r : ScanRead). r.number) (h (λ z. omega arith)) ∙ e
 
-    pub in_parts : InParts
-    in_parts =
+    pub in-parts : InParts
+    in-parts =
         let t = not-refused tagIn.number (λ h. tag-refused refl h) in
         let g = not-refused guardIn.number (λ h. guard-refused refl t refl h) in
         let v = not-refused valueIn.number (λ h. value-refused refl t refl g refl h) in

@@ -8,19 +8,19 @@ use lib.Seq.{drop-append_seam, drop-drop}
 use Rattle.places.proofs.Below.{Below, below-drop}
 use Rattle.ion.specs.Numbers.VarUInt.{varuint}
 use Rattle.ion.specs.Calls.Accepted.{Accepted}
-use Rattle.ion.specs.Value.Encode.{value_of}
+use Rattle.ion.specs.Value.Encode.{valueOf}
 use Rattle.ion.specs.Value.ReadValue.{readValue}
 use Rattle.contents.proofs.Readers.{Advances, ReadsAs, WrittenSo, Inverse}
 use Rattle.timestamp_binary.proofs.Lengths.{value-some, value-length}
 use Rattle.value_reader.proofs.Values.{value-back}
-use Rattle.value_reader.proofs.Readings.{read_is, value-within}
+use Rattle.value_reader.proofs.Readings.{read-is, value-within}
 use Rattle.scans.specs.Number.{largest, readNumber}
 use Rattle.scans.specs.Scan.{scanBytes, acceptedScan, readScan}
 use Rattle.scans.specs.File.{scanReader}
 use Rattle.scans.specs.declared.Scan.{Scan}
 use Rattle.scans.specs.declared.ScanRead.{ScanRead}
-use Rattle.scan_laws.proofs.Numbers.{number_size, number-back, number_is, number-within}
-use Rattle.scan_laws.proofs.Reading.{accepted, tagIn, guardIn, valueIn, scan-accepted, in_parts}
+use Rattle.scan_laws.proofs.Numbers.{number-size, number-back, number-is, number-within}
+use Rattle.scan_laws.proofs.Reading.{accepted, tagIn, guardIn, valueIn, scan-accepted, in-parts}
 
 -- a scan that a file can hold
 pub record Stored (x : Scan) : Type 0 where
@@ -28,11 +28,11 @@ pub record Stored (x : Scan) : Type 0 where
   pub guard : x.guard ≤ largest
   pub stamp : Accepted x.stamp
 
-scan-length : (x : Scan) → length (scanBytes x) ≡ length (varuint x.tag) + length (varuint x.guard) + length (value_of x.stamp)
+scan-length : (x : Scan) → length (scanBytes x) ≡ length (varuint x.tag) + length (varuint x.guard) + length (valueOf x.stamp)
 unfolding scanBytes
 scan-length x =
     let g = varuint x.guard in
-    let v = value_of x.stamp in
+    let v = valueOf x.stamp in
     omega (arith, length-append (varuint x.tag) (g ++ v), length-append g v)
 
 -- a byte each of tag and guard and three of the value at least, five each and twenty at most
@@ -40,8 +40,8 @@ pub scan-size : (x : Scan) → Stored x → (5 ≤ length (scanBytes x)) × (len
 scan-size x p =
     let n = scan-length x in
     let s = x.stamp in (
-      omega (arith, n, (number_size x.tag p.tag).0, (number_size x.guard p.guard).0, value-some s),
-      omega (arith, n, (number_size x.tag p.tag).1, (number_size x.guard p.guard).1, value-length s p.stamp),
+      omega (arith, n, (number-size x.tag p.tag).0, (number-size x.guard p.guard).0, value-some s),
+      omega (arith, n, (number-size x.tag p.tag).1, (number-size x.guard p.guard).1, value-length s p.stamp),
     )
 
 -- ---- written and read
@@ -51,7 +51,7 @@ unfolding scanBytes
 scan-back x r p =
     let t = varuint x.tag in
     let g = varuint x.guard in
-    let v = value_of x.stamp in
+    let v = valueOf x.stamp in
     let s = t ++ (g ++ (v ++ r)) in
     let e : scanBytes x ++ r ≡ s = append_assoc t (g ++ v) r ∙ ap (λ (b : List ℕ). t ++ b) (append_assoc g v r) in
     let first : drop (length t) s ≡ g ++ (v ++ r) = drop-append_seam t (g ++ (v ++ r)) in
@@ -74,17 +74,17 @@ begin-two s a b m n e f =
 scan-is : (s : List ℕ) → Below 256 s → (readScan s).number ≡ 0 → WrittenSo scanReader scanBytes Stored s
 unfolding scanBytes
 scan-is s b e =
-    let p = in_parts s e in
+    let p = in-parts s e in
     let m = (tagIn s).taken in
     let n = (guardIn s).taken in
-    let t = number_is s b p.tag in
-    let g = number_is (drop m s) (below-drop 256 m s b) p.guard in
-    let v = read_is (drop (m + n) s) p.value in
+    let t = number-is s b p.tag in
+    let g = number-is (drop m s) (below-drop 256 m s b) p.guard in
+    let v = read-is (drop (m + n) s) p.value in
     let r = accepted (tagIn s) (guardIn s) (valueIn s) in
     let x = r.scan in
     let tb = varuint x.tag in
     let gb = varuint x.guard in
-    let vb = value_of x.stamp in
+    let vb = valueOf x.stamp in
     let bytes =
     begin-two s (tb ++ gb) vb (m + n) (valueIn s).taken (begin-two s tb gb m n t.bytes g.bytes) v.bytes
     ∙ ap (λ (a : List ℕ). a ++ drop r.taken s) (append_assoc tb gb vb) in
@@ -97,7 +97,7 @@ scan-is s b e =
 -- it takes a byte each of tag and guard and three of the value, at least, and no more than there are
 pub scan-within : (s : List ℕ) → (readScan s).number ≡ 0 → (5 ≤ (readScan s).taken) × ((readScan s).taken ≤ length s)
 scan-within s e =
-    let p = in_parts s e in
+    let p = in-parts s e in
     let m = (tagIn s).taken in
     let n = (guardIn s).taken in
     let t = number-within s p.tag in

@@ -10,17 +10,17 @@ use Rattle.ion.specs.Numbers.VarInt.{signedCount, signed, varint, readVarInt}
 use Rattle.ion.specs.Numbers.Int.{intCount, int, readInt}
 use Rattle.ion.specs.Numbers.Decimal.{decimalBytes}
 use Rattle.ion.specs.Calendar.Dates.{isLeap, monthLengthOf, sumBelow}
-use Rattle.ion.specs.Pair.Word.{word_of, fields_of}
+use Rattle.ion.specs.Pair.Word.{wordOf, fieldsOf}
 use Rattle.ion.specs.Pair.Pair.{packedPair}
 use Rattle.ion.specs.Pair.Fraction.{capped}
 use Rattle.ion.specs.Calls.Output.{put, roomFor, putAfter, wroteAfter}
 use Rattle.ion.specs.Calls.Build.{buildNumber, buildPair, buildOf}
 use Rattle.ion.specs.Calls.Check.{checkOf}
-use Rattle.ion.specs.Calls.Contents.{contentsFrom, contents, in_turn}
+use Rattle.ion.specs.Calls.Contents.{contentsFrom, contents, inTurn}
 use Rattle.ion.specs.Calls.Utc.{utcFields}
-use Rattle.ion.specs.Value.Encode.{offsetBytes, varuints, fieldCount, fractionBytes, bodyFrom, body_of, header, value_of}
+use Rattle.ion.specs.Value.Encode.{offsetBytes, varuints, fieldCount, fractionBytes, bodyFrom, bodyOf, header, valueOf}
 use Rattle.ion.specs.Value.Decode.{decodeOffset, decodeFields, decodeFraction, filled, precisionWith, decodeBody, pairFrom}
-use Rattle.ion.specs.Value.ReadValue.{same, isBodyOf, read_body, readAfter, readLength, readValue}
+use Rattle.ion.specs.Value.ReadValue.{same, isBodyOf, readBody, readAfter, readLength, readValue}
 use Rattle.ion.specs.declared.Written.{Written}
 use Rattle.scans.specs.Number.{readNumber}
 use Rattle.scans.specs.Scan.{scanOf, scanBytes, scanNumber, refusedScan, acceptedScan, readScan}
@@ -186,8 +186,8 @@ scanRows =
 pub scan-examples : map (λ (r : Row). r.given) scanRows ≡ map (λ (r : Row). r.stated) scanRows
 unfolding scanRows row year1 p3 longest most unmarked above first firstBytes second secondBytes last lastBytes takes refuses cuts holds
     damaged filler writes wrote refusedWith placesOn places countIn count placeCount valueFrom groups varuint scanFrom readVarUInt
-    signedCount signed varint readVarInt intCount int readInt decimalBytes isLeap monthLengthOf sumBelow word_of fields_of capped buildOf
-    buildNumber buildPair checkOf utcFields offsetBytes varuints fieldCount fractionBytes bodyFrom body_of header value_of decodeOffset
-    decodeFields decodeFraction filled precisionWith decodeBody pairFrom same isBodyOf read_body readAfter readLength readValue put
-    roomFor putAfter wroteAfter contentsFrom contents in_turn readNumber scanBytes scanNumber readScan contentsOf fileBytes checkFileOf
+    signedCount signed varint readVarInt intCount int readInt decimalBytes isLeap monthLengthOf sumBelow wordOf fieldsOf capped buildOf
+    buildNumber buildPair checkOf utcFields offsetBytes varuints fieldCount fractionBytes bodyFrom bodyOf header valueOf decodeOffset
+    decodeFields decodeFraction filled precisionWith decodeBody pairFrom same isBodyOf readBody readAfter readLength readValue put
+    roomFor putAfter wroteAfter contentsFrom contents inTurn readNumber scanBytes scanNumber readScan contentsOf fileBytes checkFileOf
 scan-examples = refl

@@ -2,7 +2,7 @@
 use Rattle.std.specs.Prelude.{ℕ, ◌+◌, List, [], ◌∷◌, length}
 use Rattle.ion.specs.Calls.Answered.{answered}
 use Rattle.ion.specs.Calls.Output.{putAfter, wroteAfter}
-use Rattle.ion.specs.Calls.Contents.{Reader, Contents, contents, in_turn}
+use Rattle.ion.specs.Calls.Contents.{Reader, Contents, contents, inTurn}
 use Rattle.scans.specs.Scan.{scanBytes, scanNumber, readScan}
 use Rattle.scans.specs.declared.Scan.{Scan}
 use Rattle.scans.specs.declared.FileRead.{FileRead}
@@ -16,7 +16,7 @@ contentsOf s = contents scanReader s
 
 -- the file of scans
 unfoldable pub fileBytes : List Scan → List ℕ
-fileBytes xs = in_turn scanBytes xs
+fileBytes xs = inTurn scanBytes xs
 
 -- the buffer d after calls of the writer, a scan after another, each from where the one before it ended; the first from index at on
 unfoldable pub writtenInTurn : List ℕ → ℕ → List Scan → List ℕ

@@ -4,7 +4,7 @@ use Rattle.ion.specs.Numbers.VarUInt.{varuint}
 use Rattle.ion.specs.Pair.Pair.{noStamp}
 use Rattle.ion.specs.Calls.Answered.{answered, firstRefusal}
 use Rattle.ion.specs.Calls.Check.{checkNumber}
-use Rattle.ion.specs.Value.Encode.{value_of}
+use Rattle.ion.specs.Value.Encode.{valueOf}
 use Rattle.ion.specs.Value.ReadValue.{readValue}
 use Rattle.ion.specs.declared.Timestamp.{Timestamp}
 use Rattle.scans.specs.Number.{readNumber}
@@ -17,7 +17,7 @@ scanOf tag guard s = record { tag = tag; guard = guard; stamp = s }
 -- ---- writing
 
 unfoldable pub scanBytes : Scan → List ℕ
-scanBytes x = varuint x.tag ++ (varuint x.guard ++ value_of x.stamp)
+scanBytes x = varuint x.tag ++ (varuint x.guard ++ valueOf x.stamp)
 
 -- the number of a scan's own checks, which come before the room's
 unfoldable pub scanNumber : Scan → ℕ

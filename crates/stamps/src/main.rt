@@ -1,4 +1,6 @@
 // Reads values from standard input and prints the text of each, as `listing` says.
+#![tactic(auto)]
+
 ghost use Rattle.std.specs.Prelude.{◌≡◌, length};
 
 use libc::{STDIN_FILENO, STDOUT_FILENO};

@@ -1,16 +1,16 @@
 -- Whether an answer is the recorded one. Assumes nothing.
 use Rattle.std.specs.Prelude.{ℕ, ◌+◌, List, Bool, false, cond, ◌&&◌, eqb, leb, ℤ, pos, negsuc, length, drop, get_or}
-use Rattle.ion.specs.Pair.Pair.{same_pair}
+use Rattle.ion.specs.Pair.Pair.{samePair}
 use Rattle.ion.specs.Calls.Check.{checkOf}
 use Rattle.ion.specs.Calls.Utc.{utcOf}
-use Rattle.ion.specs.Calls.Order.{cmpOf, eqOf, ionCmpOf, ionEqOf, distance_of}
+use Rattle.ion.specs.Calls.Order.{cmpOf, eqOf, ionCmpOf, ionEqOf, distanceOf}
 use Rattle.ion.specs.Text.ReadText.{readTextOf}
 use Rattle.ion.specs.Value.ReadValue.{readValue}
 use Rattle.ion.specs.declared.Built.{Built}
 use Rattle.ion.specs.declared.Ordered.{Ordered}
 use Rattle.ion.specs.declared.Compared.{Compared}
 use Rattle.test_field_sets.specs.FieldSets.{builtFrom}
-use Rattle.test_answers.specs.Fields.{word_at, recordedPair, signAt, fieldSetAt, isFieldSet}
+use Rattle.test_answers.specs.Fields.{wordAt, recordedPair, signAt, fieldSetAt, isFieldSet}
 
 -- whether two signed numbers are the same
 abbrev pub sameInt : ℤ → ℤ → Bool
@@ -23,7 +23,7 @@ sameInt (negsuc a) (pos b) = false
 
 -- a number and a pair
 unfoldable pub isBuilt : Built → List ℕ → ℕ → Bool
-isBuilt a r at = eqb a.number (get_or r at 0) && same_pair a.stamp (recordedPair r (at + 1))
+isBuilt a r at = eqb a.number (get_or r at 0) && samePair a.stamp (recordedPair r (at + 1))
 
 -- of two timestamps: the number after them, and a sign
 unfoldable pub isOrdered : Ordered → List ℕ → ℕ → Bool
@@ -57,8 +57,8 @@ orderAgrees r =
 -- the distance
 unfoldable pub distanceAgrees : List ℕ → Bool
 distanceAgrees r =
-    let a = distance_of (recordedPair r 0) (recordedPair r 16) in
-    eqb a.number (get_or r 32 0) && sameInt a.sign (signAt r 33) && eqb a.seconds (word_at r 34) && eqb a.attoseconds (word_at r 42)
+    let a = distanceOf (recordedPair r 0) (recordedPair r 16) in
+    eqb a.number (get_or r 32 0) && sameInt a.sign (signAt r 33) && eqb a.seconds (wordAt r 34) && eqb a.attoseconds (wordAt r 42)
 
 -- reading: the input stands after the number, the pair, and how many bytes are taken
 unfoldable pub readAgrees : List ℕ → Bool

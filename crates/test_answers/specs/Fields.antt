@@ -10,16 +10,16 @@ unfoldable pub halfAt : List ℕ → ℕ → ℕ
 halfAt s at = ((get_or s at 0 * 256 + get_or s (at + 1) 0) * 256 + get_or s (at + 2) 0) * 256 + get_or s (at + 3) 0
 
 -- the number in eight
-unfoldable pub word_at : List ℕ → ℕ → ℕ
-word_at s at = halfAt s at * 2 ^ 32 + halfAt s (at + 4)
+unfoldable pub wordAt : List ℕ → ℕ → ℕ
+wordAt s at = halfAt s at * 2 ^ 32 + halfAt s (at + 4)
 
 -- the signed number for which a number below 2 ^ n stands in two's complement
-abbrev pub signed_of : ℕ → ℕ → ℤ
-signed_of n x = cond (ltb x (2 ^ (n - 1))) (pos x) (negsuc (2 ^ n - 1 - x))
+abbrev pub signedOf : ℕ → ℕ → ℤ
+signedOf n x = cond (ltb x (2 ^ (n - 1))) (pos x) (negsuc (2 ^ n - 1 - x))
 
 -- a pair: two such numbers
 unfoldable pub recordedPair : List ℕ → ℕ → Timestamp
-recordedPair s at = packedPair (word_at s at) (word_at s (at + 8))
+recordedPair s at = packedPair (wordAt s at) (wordAt s (at + 8))
 
 -- the field set of 48 bytes: a sum of 1, 2 and 4 says how month, day, hour and minute are given, and a fraction has two numbers, of which
 -- one that is no decimal needs the low halves
@@ -28,8 +28,8 @@ fieldSetAt s =
     let how = get_or s 1 0 in
     fieldSet (get_or s 0 0) (eqb (how % 2) 1) (eqb (how / 2 % 2) 1) (eqb (how / 4 % 2) 1)
     (halfAt s 2) (halfAt s 6) (halfAt s 10) (halfAt s 14) (halfAt s 18) (halfAt s 22)
-    (get_or s 26 0) (halfAt s 31) (halfAt s 39) (word_at s 27) (signed_of 64 (word_at s 35))
-    (get_or s 43 0) (signed_of 32 (halfAt s 44))
+    (get_or s 26 0) (halfAt s 31) (halfAt s 39) (wordAt s 27) (signedOf 64 (wordAt s 35))
+    (get_or s 43 0) (signedOf 32 (halfAt s 44))
 
 -- whether it is such a sum, and the high halves are 0 where they are not needed
 unfoldable pub isFieldSet : List ℕ → Bool

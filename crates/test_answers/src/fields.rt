@@ -1,6 +1,6 @@
 // Fields at fixed places of a record's bytes. A byte past the end reads as 0.
 ghost use Rattle.std.specs.Prelude.{◌≡◌, ◌<◌, get_or};
-ghost use Rattle.test_answers.specs.Fields.{halfAt, word_at, recordedPair, signAt, signed_of};
+ghost use Rattle.test_answers.specs.Fields.{halfAt, wordAt, recordedPair, signAt, signedOf};
 
 use ion::Timestamp;
 
@@ -34,7 +34,7 @@ pub fn half_at(s: &[u8], at: usize) -> u32
 
 pub fn word_at(s: &[u8], at: usize) -> u64
     requires { at < 500 }
-    ensures { result ≡ word_at s.now at }
+    ensures { result ≡ wordAt s.now at }
 {
     half_at(s, at) as u64 * 4_294_967_296 + half_at(s, at + 4) as u64
 }
@@ -68,7 +68,7 @@ pub(crate) fn sign_at(s: &[u8], at: usize) -> i32
 
 // In two's complement.
 pub(crate) fn signed_half(x: u32) -> i32
-    ensures { result ≡ signed_of 32 x }
+    ensures { result ≡ signedOf 32 x }
 {
     if x < 2_147_483_648 {
         return x as i32;
@@ -77,7 +77,7 @@ pub(crate) fn signed_half(x: u32) -> i32
 }
 
 pub fn signed_word(x: u64) -> i64
-    ensures { result ≡ signed_of 64 x }
+    ensures { result ≡ signedOf 64 x }
 {
     if x < 9_223_372_036_854_775_808 {
         return x as i64;

@@ -1,5 +1,7 @@
 // Whether the library's answer about timestamps is the recorded one, for each kind of case but those of writers.
 // The file's format stands in differential/README.md.
+#![tactic(auto)]
+
 mod built;
 mod fields;
 mod orders;

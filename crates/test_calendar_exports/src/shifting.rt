@@ -9,7 +9,7 @@ use ion::{Date, DateTime};
 const NOT_MOVABLE: u32 = 102;
 
 // A number, and a date and time: zeros beside a refusal.
-#[derive(Drop)]
+#[derive(Clone, Copy)]
 pub struct Moved {
     pub number: u32,
     pub time: DateTime,

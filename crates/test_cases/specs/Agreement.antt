@@ -1,6 +1,6 @@
 -- Whether an answer about scans is the recorded one. Assumes nothing.
 use Rattle.std.specs.Prelude.{ℕ, ◌+◌, List, Bool, ◌&&◌, eqb, leb, length, drop, get_or}
-use Rattle.ion.specs.Pair.Pair.{same_pair}
+use Rattle.ion.specs.Pair.Pair.{samePair}
 use Rattle.scans.specs.Scan.{scanOf, readScan}
 use Rattle.scans.specs.File.{checkFileOf}
 use Rattle.scans.specs.declared.Scan.{Scan}
@@ -11,7 +11,7 @@ unfoldable pub recordedScan : List ℕ → ℕ → Scan
 recordedScan r at = scanOf (halfAt r at) (halfAt r (at + 4)) (recordedPair r (at + 8))
 
 abbrev pub sameScan : Scan → Scan → Bool
-sameScan x y = eqb x.tag y.tag && eqb x.guard y.guard && same_pair x.stamp y.stamp
+sameScan x y = eqb x.tag y.tag && eqb x.guard y.guard && samePair x.stamp y.stamp
 
 -- reading: the input stands after the number, the scan, and how many bytes are taken
 unfoldable pub scanAgrees : List ℕ → Bool

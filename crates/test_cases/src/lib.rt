@@ -1,5 +1,7 @@
 // The kinds of recorded cases: how long each is, and whether the library's answer is the recorded one.
 // The file's format stands in differential/README.md.
+#![tactic(auto)]
+
 mod scans_read;
 mod written;
 

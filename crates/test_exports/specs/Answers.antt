@@ -1,6 +1,6 @@
 -- What a C function hands out of an answer x: it returns the number, n, and stores the rest through references. Assumes nothing.
 use Rattle.std.specs.Prelude.{ℕ, ◌≡◌, Bool, true, false, ℤ}
-use Rattle.ion.specs.Pair.Pair.{word_in}
+use Rattle.ion.specs.Pair.Pair.{wordIn}
 use Rattle.ion.specs.Pair.Offset.{minutesOf}
 use Rattle.ion.specs.declared.offset.Offset.{Offset}
 use Rattle.ion.specs.declared.offset.Offset.TheVariants.{Unknown, Known}
@@ -23,7 +23,7 @@ isKnown (Known m) = true
 -- a pair
 pub record BuiltIs (x : Built) (n w a : ℕ) : Type 0 where
   pub number : n ≡ x.number
-  pub word : w ≡ word_in x.stamp
+  pub word : w ≡ wordIn x.stamp
   pub attoseconds : a ≡ x.stamp.attoseconds
 
 -- a field of 32 bits
@@ -73,6 +73,6 @@ pub record WrittenIs (x : Written) (n k : ℕ) : Type 0 where
 -- a pair, and how many bytes it took
 pub record ReadIs (x : Read) (n w a k : ℕ) : Type 0 where
   pub number : n ≡ x.number
-  pub word : w ≡ word_in x.stamp
+  pub word : w ≡ wordIn x.stamp
   pub attoseconds : a ≡ x.stamp.attoseconds
   pub taken : k ≡ x.taken

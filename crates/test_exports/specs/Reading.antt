@@ -1,6 +1,6 @@
 -- The fields of a timestamp by their codes. Assumes nothing.
 use Rattle.std.specs.Prelude.{ℕ, List, [], ◌∷◌, get_or}
-use Rattle.ion.specs.Calls.Reads.{yearOf, monthOf, dayOf, hourOf, minuteOf, second_of, precisionFieldOf, digitsFieldOf}
+use Rattle.ion.specs.Calls.Reads.{yearOf, monthOf, dayOf, hourOf, minuteOf, secondOf, precisionFieldOf, digitsFieldOf}
 use Rattle.ion.specs.Calls.Reads.{nanosecondsOf, microsecondsOf, millisecondsOf}
 use Rattle.ion.specs.declared.Timestamp.{Timestamp}
 use Rattle.ion.specs.declared.Field.{Field}
@@ -15,7 +15,7 @@ codedFields s =
     ∷ dayOf s
     ∷ hourOf s
     ∷ minuteOf s
-    ∷ second_of s
+    ∷ secondOf s
     ∷ precisionFieldOf s
     ∷ digitsFieldOf s
     ∷ millisecondsOf s

@@ -1,6 +1,6 @@
 // Order, equality and distance of two packed pairs.
 ghost use Rattle.ion.specs.Pair.Pair.{packedPair};
-ghost use Rattle.ion.specs.Calls.Order.{cmpOf, eqOf, ionCmpOf, ionEqOf, distance_of};
+ghost use Rattle.ion.specs.Calls.Order.{cmpOf, eqOf, ionCmpOf, ionEqOf, distanceOf};
 ghost use Rattle.test_exports.specs.Answers.{OrderedIs, ComparedIs, DistanceIs};
 
 use crate::answers::{pair, store_compared, store_distance, store_ordered};
@@ -43,7 +43,7 @@ pub extern "C" fn timestamp_distance(
     seconds: &mut u64,
     attoseconds: &mut u64,
 ) -> u32
-    ensures { DistanceIs (distance_of (packedPair w a) (packedPair v b)) result sign.new seconds.new
+    ensures { DistanceIs (distanceOf (packedPair w a) (packedPair v b)) result sign.new seconds.new
         attoseconds.new }
 {
     store_distance(

@@ -4,9 +4,9 @@ ghost use Rattle.ion.specs.Pair.Pair.{packedPair};
 ghost use Rattle.ion.specs.Calls.Check.{checkNumber};
 ghost use Rattle.ion.specs.Calls.Output.{put, wrote, putAfter, wroteAfter};
 ghost use Rattle.ion.specs.Value.ReadValue.{readValue};
-ghost use Rattle.ion.specs.Text.Format.{text_of};
+ghost use Rattle.ion.specs.Text.Format.{textOf};
 ghost use Rattle.ion.specs.Text.ReadText.{readTextOf};
-ghost use Rattle.ion.specs.Value.Encode.{body_of, value_of};
+ghost use Rattle.ion.specs.Value.Encode.{bodyOf, valueOf};
 ghost use Rattle.ion.specs.Numbers.Padded.{padded};
 ghost use Rattle.ion.specs.Numbers.VarInt.{varint};
 ghost use Rattle.ion.specs.Numbers.VarUInt.{varuint};
@@ -19,9 +19,9 @@ use text::text_formatter;
 #[unsafe(no_mangle)]
 pub extern "C" fn timestamp_text(w: u64, a: u64, buf: &mut [u8], written: &mut usize) -> u32
     ensures fact { let s = packedPair w a in
-        WrittenIs (wroteAfter (checkNumber s) buf.old 0 (text_of s)) result written.new }
+        WrittenIs (wroteAfter (checkNumber s) buf.old 0 (textOf s)) result written.new }
     ensures buf_after { let s = packedPair w a in
-        buf.new ≡ putAfter (checkNumber s) buf.old 0 (text_of s) }
+        buf.new ≡ putAfter (checkNumber s) buf.old 0 (textOf s) }
 {
     store_written(timestamp_text::format(buf, 0, pair(w, a)), written)
 }
@@ -29,9 +29,9 @@ pub extern "C" fn timestamp_text(w: u64, a: u64, buf: &mut [u8], written: &mut u
 #[unsafe(no_mangle)]
 pub extern "C" fn timestamp_value(w: u64, a: u64, buf: &mut [u8], written: &mut usize) -> u32
     ensures fact { let s = packedPair w a in
-        WrittenIs (wroteAfter (checkNumber s) buf.old 0 (value_of s)) result written.new }
+        WrittenIs (wroteAfter (checkNumber s) buf.old 0 (valueOf s)) result written.new }
     ensures buf_after { let s = packedPair w a in
-        buf.new ≡ putAfter (checkNumber s) buf.old 0 (value_of s) }
+        buf.new ≡ putAfter (checkNumber s) buf.old 0 (valueOf s) }
 {
     let x = timestamp_binary::encode_timestamp_value(buf, 0, pair(w, a));
     store_written(x, written)
@@ -40,9 +40,9 @@ pub extern "C" fn timestamp_value(w: u64, a: u64, buf: &mut [u8], written: &mut 
 #[unsafe(no_mangle)]
 pub extern "C" fn timestamp_body(w: u64, a: u64, buf: &mut [u8], written: &mut usize) -> u32
     ensures fact { let s = packedPair w a in
-        WrittenIs (wroteAfter (checkNumber s) buf.old 0 (body_of s)) result written.new }
+        WrittenIs (wroteAfter (checkNumber s) buf.old 0 (bodyOf s)) result written.new }
     ensures buf_after { let s = packedPair w a in
-        buf.new ≡ putAfter (checkNumber s) buf.old 0 (body_of s) }
+        buf.new ≡ putAfter (checkNumber s) buf.old 0 (bodyOf s) }
 {
     let x = timestamp_binary::encode_timestamp(buf, 0, pair(w, a));
     store_written(x, written)

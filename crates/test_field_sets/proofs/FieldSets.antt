@@ -41,9 +41,9 @@ module _ (o : ℕ) (m : ℤ) (f : BuilderFields) where
 module _ (x : FieldSet) where
   module _ (f : BuilderFields) where
     -- ---- the second and its fraction
-    pub no_fraction : x.fraction ≡ 0 → withFractionGiven x f ≡ f
+    pub no-fraction : x.fraction ≡ 0 → withFractionGiven x f ≡ f
     unfolding withFractionGiven
-    no_fraction e = simp (eq-eqb _ _ e)
+    no-fraction e = simp (eq-eqb _ _ e)
 
     pub fraction-given : (x.fraction ≡ 0 → ⊥) → withFractionGiven x f ≡ withFraction f (fractionGiven x)
     unfolding withFractionGiven

@@ -1,4 +1,6 @@
 // Staged field sets in numbers, as tests and recorded answers have them, given to the builder stage by stage.
+#![tactic(auto)]
+
 mod stages;
 
 ghost use Rattle.std.specs.Prelude.{◌≡◌};
@@ -11,7 +13,7 @@ use stages::build_staged;
 pub const UNKNOWN_CODE: u32 = 101;
 
 // A field set in numbers: what each means is said in specs/FieldSets.antt.
-#[derive(Drop)]
+#[derive(Clone, Copy)]
 pub struct FieldSet {
     pub stage: u32,
     pub month0: bool,

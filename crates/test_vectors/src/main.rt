@@ -1,5 +1,7 @@
 // Replays recorded answers of the Rust, read from standard input, against the library, and prints how many agree.
 // The file's format stands in differential/README.md.
+#![tactic(auto)]
+
 mod lines;
 mod records;
 mod replay;

@@ -6,7 +6,7 @@ use test_answers::{count_at, half_at};
 use test_cases::case_length;
 
 // What stands at a place of the file, with the number of bytes after its kind and length.
-#[derive(Drop)]
+#[derive(Clone, Copy)]
 pub enum Record {
     Source(usize),
     Case(usize),

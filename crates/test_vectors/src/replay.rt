@@ -7,7 +7,7 @@ use crate::records::{Record, record_at};
 use test_cases::agrees;
 
 // Where the cases end, how many there are, and how many of them agree.
-#[derive(Drop)]
+#[derive(Clone, Copy)]
 pub struct Tally {
     pub end: usize,
     pub records: usize,

@@ -5,7 +5,7 @@ use Prim.Native.Nat.{ℕ, suc, ◌+◌, ◌-◌, ◌/◌, ◌^◌, ◌≤◌, �
 use native.Mathlib.Omega.{arith}
 use lib.Dec.{lit<}
 use lib.ListN.{length}
-use Rattle.places.proofs.Laws.{length-places, fewest, place_is, place-split}
+use Rattle.places.proofs.Laws.{length-places, fewest, place-is, place-split}
 use Rattle.places.proofs.Padded as base
 use Rattle.ion.specs.Calls.Output.{Run}
 use Rattle.ion.specs.Numbers.Padded.{digit, lastDigits, digitCount, padded}
@@ -22,11 +22,11 @@ length-exact w n l h = ap length (padded-digits w n l h) ∙ length-places 10 di
 
 -- ---- how many digits a number has
 
-pub count_most : (k n : ℕ) → 1 ≤ k → n < 10 ^ k → digitCount n ≤ k
-count_most k n l h = fewest 10 (lit< tt) k n l h
+pub count-most : (k n : ℕ) → 1 ≤ k → n < 10 ^ k → digitCount n ≤ k
+count-most k n l h = fewest 10 (lit< tt) k n l h
 
 pub count-is : (k n : ℕ) → 10 ^ k ≤ n → n < 10 ^ suc k → suc k ≡ digitCount n
-count-is k n l h = sym (place_is 10 (lit< tt) k n l h)
+count-is k n l h = sym (place-is 10 (lit< tt) k n l h)
 
 -- those in front of the last k, and k
 pub count-split : (k n : ℕ) → 10 ^ k ≤ n → k + digitCount (n / 10 ^ k) ≡ digitCount n

@@ -10,7 +10,7 @@ use Rattle.places.proofs.Padded.{last-places}
 use Rattle.ion.specs.Calls.Output.{put, wrote, Run}
 use Rattle.ion.specs.Numbers.Padded.{digit, digitCount, padded}
 use Rattle.ion.specs.declared.Written.{Written}
-use Rattle.output.proofs.Stores.{room_fits, room-short, put-fits}
+use Rattle.output.proofs.Stores.{room-fits, room-short, put-fits}
 use Rattle.output.proofs.Runs.{run-last}
 use Rattle.text.specs.LastDigits.{LastDigits}
 use Rattle.text.proofs.Digits.{length-padded}
@@ -35,5 +35,5 @@ pub written-last-digits : (d : List ℕ) (at w n : ℕ)
 written-last-digits d at w n k l m =
     let s = padded w n in
     let h : at + length s ≤ length d = has-written d at s (omega arith) in
-    let e : (wrote d at s).written ≡ length s = ap (λ (a : Written). a.written) (room_fits (length d) at (length s) h) in
+    let e : (wrote d at s).written ≡ length s = ap (λ (a : Written). a.written) (room-fits (length d) at (length s) h) in
     rw (e, put-fits d at s h) (run-last-digits w n (record { bytes = refl; next = refl }) h k l (omega (arith, length-padded w n)))

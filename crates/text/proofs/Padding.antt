@@ -53,8 +53,8 @@ module _ {b : ℕ} {f : ℕ → ℕ} {d : List ℕ} {at end w v : ℕ} {l : List
   pub padding-within : i ≤ length l
   padding-within = omega (arith, padding-to, p.stored.size, p.room)
 
-  stored_next : end - (i - 1) ≡ 1 + (end - i)
-  stored_next = omega (arith, padding-some, padding-to)
+  stored-next : end - (i - 1) ≡ 1 + (end - i)
+  stored-next = omega (arith, padding-some, padding-to)
 
   -- the one place that is left of a number below b
   left-last : q / b ≡ 0 → i ≡ at + max (w - (end - i)) 1
@@ -67,14 +67,14 @@ module _ {b : ℕ} {f : ℕ → ℕ} {d : List ℕ} {at end w v : ℕ} {l : List
   width-next : q / b ≡ 0 → end - (i - 1) < w → i - 1 ≡ at + max (w - (1 + (end - i))) (placeCount b (q / b))
   width-next z h =
       let n : placeCount b (q / b) ≡ 1 = place-last b hb (q / b) (rw z (zero-div b)) in
-      rw n (width-on at i w (end - i) (left-last z) (rw stored_next at h))
+      rw n (width-on at i w (end - i) (left-last z) (rw stored-next at h))
 
   turned : Storing b f d at (max w (placeCount b v)) v (set l (i - 1) (f (q % b))) (i - 1) (q / b)
   turned = storing-next p.stored padding-some (rw p.ends p.room)
 
   -- a turn after which the width or the number goes on
   pub padding-next : (end - (i - 1) < w) ⊎ (q / b ≡ 0 → ⊥) → Padding b f d at end w v (set l (i - 1) (f (q % b))) (i - 1) (q / b)
-  padding-next g = record { ends = p.ends; room = p.room; stored = turned; left = rw stored_next (go g (dec_le (q / b) 0)) }
+  padding-next g = record { ends = p.ends; room = p.room; stored = turned; left = rw stored-next (go g (dec_le (q / b) 0)) }
     where
       go : (end - (i - 1) < w) ⊎ (q / b ≡ 0 → ⊥) → Dec (q / b ≤ 0) → i - 1 ≡ at + max (w - (1 + (end - i))) (placeCount b (q / b))
       go g (no h) = number-next (omega arith)
@@ -84,5 +84,5 @@ module _ {b : ℕ} {f : ℕ → ℕ} {d : List ℕ} {at end w v : ℕ} {l : List
   -- and one after which both are done
   pub padding-all : w ≤ end - (i - 1) → q / b ≡ 0 → set l (i - 1) (f (q % b)) ≡ over d at (paddedPlaces b f w v)
   padding-all g z =
-      storing-all turned (none-on at i w (end - i) (left-last z) (rw stored_next at g))
+      storing-all turned (none-on at i w (end - i) (left-last z) (rw stored-next at g))
       ∙ ap (over d at) (places-padded b f w v (max w (placeCount b v)) refl)

@@ -16,7 +16,7 @@ use Rattle.ion.specs.Text.Format.{unknownText, zeroText}
 use Rattle.ion.specs.Text.ReadText.{readMarked, onValue, knownOffset, signedClock, readClock, readOffset}
 use Rattle.ion.specs.Value.ReadValue.{same}
 use Rattle.ion.specs.declared.OffsetRead.TheVariants.{Wrong}
-use Rattle.ion.proofs.Same.{same_not}
+use Rattle.ion.proofs.Same.{same-not}
 
 -- ---- the first k bytes of two lists, compared one after the other
 
@@ -24,17 +24,17 @@ abbrev agree : ℕ → List ℕ → List ℕ → Bool
 agree zero r b = true
 agree (suc k) r b = agree k r b && eqb (get_or r k 0) (get_or b k 0)
 
-agree_then : (k : ℕ) (r b : List ℕ) → k ≤ length r → k ≤ length b → agree k r b && same (drop k r) (drop k b) ≡ same r b
+agree-then : (k : ℕ) (r b : List ℕ) → k ≤ length r → k ≤ length b → agree k r b && same (drop k r) (drop k b) ≡ same r b
 unfolding same
-agree_then zero r b h l = refl
-agree_then (suc k) r b h l =
-    let e = agree_then k r b (omega arith) (omega arith) in
+agree-then zero r b h l = refl
+agree-then (suc k) r b h l =
+    let e = agree-then k r b (omega arith) (omega arith) in
     and_assoc (agree k r b) _ _ ∙ (rw (drop-cons r k 0 h, drop-cons b k 0 l) at e)
 
 pub agree-all : (k : ℕ) (r b : List ℕ) → length r ≡ k → length b ≡ k → agree k r b ≡ same r b
 unfolding same
 agree-all k r b h l =
-    let e = agree_then k r b (omega arith) (omega arith) in
+    let e = agree-then k r b (omega arith) (omega arith) in
     sym (and-true _) ∙ rw (← e, drop_of_length-le r {i = k} (omega arith), drop_of_length-le b {i = k} (omega arith))
 
 -- ---- a sign, hours and minutes: the sign is the mark of the hours
@@ -50,19 +50,19 @@ clock-at s at h =
 
 -- ---- by the number of bytes
 
-pub same_length : (r t : List ℕ) → (length r ≡ length t → ⊥) → same r t ≡ false
-same_length r t h = same_not r t (λ e. h (ap length e))
+pub same-length : (r t : List ℕ) → (length r ≡ length t → ⊥) → same r t ≡ false
+same-length r t h = same-not r t (λ e. h (ap length e))
 
 pub offset-clock : (r : List ℕ) → length r ≡ 6 → same r unknownText ≡ false → same r zeroText ≡ false → readOffset r ≡ readClock r
 unfolding readOffset
-offset-clock r h e f = rw (e, f, same_length r (ascii "Z") (λ e. omega arith))
+offset-clock r h e f = rw (e, f, same-length r (ascii "Z") (λ e. omega arith))
 
 offset-short : (r : List ℕ) → (length r ≡ 6 → ⊥) → readOffset r ≡ cond (same r (ascii "Z")) (knownOffset (pos 0)) Wrong
 unfolding readOffset readClock
-offset-short r h = rw (same_length r unknownText h, same_length r zeroText h, ne_eqb (length r) 6 h)
+offset-short r h = rw (same-length r unknownText h, same-length r zeroText h, ne_eqb (length r) 6 h)
 
 pub offset-other : (r : List ℕ) → (length r ≡ 1 → ⊥) → (length r ≡ 6 → ⊥) → readOffset r ≡ Wrong
-offset-other r h l = offset-short r l ∙ rw (same_length r (ascii "Z") h)
+offset-other r h l = offset-short r l ∙ rw (same-length r (ascii "Z") h)
 
 pub offset-byte : (s : List ℕ) (at : ℕ) → length s - at ≡ 1
     → readOffset (drop at s) ≡ cond (eqb (get_or s at 0) (code "Z")) (knownOffset (pos 0)) Wrong

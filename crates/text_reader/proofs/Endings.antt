@@ -24,9 +24,9 @@ use Rattle.ion.specs.declared.TextRead.TheVariants.{Form, Broken}
 use Rattle.text_reader.specs.Parts.{RunIs, fractionRead, endingRead, given, after, ends, FractionIs, EndingIs}
 use Rattle.text_reader.specs.declared.digits.DigitRun.{DigitRun}
 use Rattle.text_reader.specs.declared.ending.FractionRead.{FractionRead}
-use Rattle.text_reader.proofs.Clocks.{same_length}
+use Rattle.text_reader.proofs.Clocks.{same-length}
 use Rattle.text_reader.proofs.Runs.{run-le}
-use Rattle.text_reader.proofs.ExactDigits.{run_value}
+use Rattle.text_reader.proofs.ExactDigits.{run-value}
 
 -- ---- a T, or nothing where that is allowed
 
@@ -41,7 +41,7 @@ module _ (s : List ℕ) (at : ℕ) (bare : Bool) where
   pub t-long : (length s - at ≡ 0 → ⊥) → (length s - at ≡ 1 → ⊥) → endsInT bare (drop at s) ≡ false
   t-long h k =
       let n = length-drop at s in
-      rw (same_length (drop at s) [] (λ e. h (sym n ∙ e)), same_length (drop at s) (ascii "T") (λ e. k (sym n ∙ e)), and-false bare)
+      rw (same-length (drop at s) [] (λ e. h (sym n ∙ e)), same-length (drop at s) (ascii "T") (λ e. k (sym n ∙ e)), and-false bare)
 
   pub t-one : length s - at ≡ 1 → endsInT bare (drop at s) ≡ eqb (get_or s at 0) (code "T")
   unfolding same
@@ -65,7 +65,7 @@ ends-date k f r h = go (dec_le k 2)
 -- ---- a fraction, after k fields
 
 pub run-below : {r : List ℕ} {x : DigitRun} → RunIs r x → x.value < 10 ^ min x.count 18
-run-below {r} p = rw (p.count, p.value) (run_value (min (digitRun r) 18) r (omega arith)).0
+run-below {r} p = rw (p.count, p.value) (run-value (min (digitRun r) 18) r (omega arith)).0
 
 module _ (s : List ℕ) where
   -- a minute has none

@@ -11,7 +11,7 @@ use lib.ListN.{length, drop, get_or, length-append, length-drop}
 use borrow.Author.Tests.{eqb-true, eqb-false}
 use Rattle.ion.specs.Text.Ascii.{ascii}
 use Rattle.ion.specs.Numbers.Padded.{padded}
-use Rattle.ion.specs.Pair.Offset.{WithinDay, rawOf, offset_of}
+use Rattle.ion.specs.Pair.Offset.{WithinDay, rawOf, offsetOf}
 use Rattle.ion.specs.Pair.Word.{InRange}
 use Rattle.ion.specs.Calls.Refusal.{formBroken}
 use Rattle.ion.specs.Calls.Build.{toOffset, givenTime, localTime, packedOf, refusedBuild, acceptedBuild}
@@ -19,7 +19,7 @@ use Rattle.ion.specs.Calls.Build.{buildNumber, buildPair, buildOf}
 use Rattle.ion.specs.Calls.Accepted.{InBounds, Accepted}
 use Rattle.ion.specs.Calls.Check.{fromLocal}
 use Rattle.ion.specs.Calls.Stages.{withYear, withMonth, withDay, withHourAndMinute, withSecond, withFraction, withOffset}
-use Rattle.ion.specs.Text.Format.{marked, fractionText, minutesText, offsetText, fieldsText, text_of}
+use Rattle.ion.specs.Text.Format.{marked, fractionText, minutesText, offsetText, fieldsText, textOf}
 use Rattle.ion.specs.Text.ReadText.{digitRun, readDigits, readMarked, digitsFraction, readText, builtFrom, readTextOf}
 use Rattle.ion.specs.declared.Fields.{Fields}
 use Rattle.ion.specs.declared.Fraction.{Fraction}
@@ -37,7 +37,7 @@ use Rattle.builder.proofs.Routed.{build-most}
 use Rattle.builder.proofs.Times.{time-in-range, build-local}
 use Rattle.timestamp.proofs.Valid.{build-accepted}
 use Rattle.text_reader.specs.Texts.{TextFor, written, without-t, with-z}
-use Rattle.text_reader.proofs.Forms.{on_test, on_value, Holds, on-t, on-date, AtOffset, on-offset, AtDigits, on-second, read-staged}
+use Rattle.text_reader.proofs.Forms.{on-test, on-value, Holds, on-t, on-date, AtOffset, on-offset, AtDigits, on-second, read-staged}
 use Rattle.text_reader.proofs.ExactDigits.{digits-exact, next-marked, fraction-exact}
 use Rattle.text_reader.proofs.ReadBack.{text-back}
 use Rattle.text_reader.proofs.ExactOffsets.{OffsetFor, offset-exact}
@@ -57,8 +57,8 @@ build-range f e =
     let i = p.0 in
     (i, time-in-range f (localTime f f.offset) (toOffset f.offset) i p.1.time (omega (arith, p.1.to-year)) i.offset)
 
-built-text : (f : BuilderFields) → InRange (packed f) → text_of (buildPair f) ≡ builtText f
-unfolding text_of buildPair
+built-text : (f : BuilderFields) → InRange (packed f) → textOf (buildPair f) ≡ builtText f
+unfolding textOf buildPair
 built-text f r = ap (λ (g : Fields). fieldsText g f.attoseconds) (unpack-pack (packed f) r)
 
 -- ---- the texts that are read
@@ -66,7 +66,7 @@ built-text f r = ap (λ (g : Fields). fieldsText g f.attoseconds) (unpack-pack (
 module _ (s : List ℕ) where
   -- s is a text of what is built of the fields f
   abbrev Exact : BuilderFields → Type 0
-  Exact f = InBounds f → (t : Timestamp) → text_of t ≡ builtText f → TextFor t s
+  Exact f = InBounds f → (t : Timestamp) → textOf t ≡ builtText f → TextFor t s
 
   end-t : (f : BuilderFields) (w r : List ℕ) → s ≡ w ++ r → builtText f ≡ w ++ ascii "T" → r ≡ ascii "T" → Exact f
   end-t f w r b h e i t k = written (b ∙ ap (λ (l : List ℕ). w ++ l) e ∙ sym (k ∙ h))
@@ -94,7 +94,7 @@ module _ (s : List ℕ) where
 
   -- the offset r after w, in which a fraction may stand
   end-offset : (f : BuilderFields) (w r : List ℕ) → (f.digits ≤ 18 → s ≡ w ++ r)
-      → ((o : Offset) → fieldsText (packedOf f (givenTime f) o) f.attoseconds ≡ w ++ offsetText (offset_of (rawOf o)))
+      → ((o : Offset) → fieldsText (packedOf f (givenTime f) o) f.attoseconds ≡ w ++ offsetText (offsetOf (rawOf o)))
       → AtOffset Exact f r
   unfolding offsetText minutesText
   end-offset f w r b h o e i t k = go (offset-exact r o e)
@@ -114,7 +114,7 @@ module _ (s : List ℕ) where
   end-digits : (f : BuilderFields) (w r : List ℕ) → s ≡ w ++ r
       → ((x : Fraction) (o : Offset)
       → fieldsText (packedOf (withFraction f x) (givenTime f) o) x.attoseconds
-      ≡ w ++ fractionText x.digits x.attoseconds ++ offsetText (offset_of (rawOf o)))
+      ≡ w ++ fractionText x.digits x.attoseconds ++ offsetText (offsetOf (rawOf o)))
       → get_or r 0 0 ≡ code "." → AtDigits Exact f (drop 1 r)
   end-digits f w r b h p k =
       let n = digitRun (drop 1 r) in
@@ -128,30 +128,30 @@ module _ (s : List ℕ) where
   unfolding readText fieldsText fractionText
   all-exact =
       let H = Holds Exact in
-      on_value H (readDigits 4 s) tt (λ y e.
+      on-value H (readDigits 4 s) tt (λ y e.
       let w = padded 4 y in
       let b = digits-exact 4 y s (lit≤ tt) e in
-      on_value H (readMarked (code "-") (drop 4 s)) (on-t Exact _ (drop 4 s) (end-t _ w (drop 4 s) b refl)) (λ mo e.
+      on-value H (readMarked (code "-") (drop 4 s)) (on-t Exact _ (drop 4 s) (end-t _ w (drop 4 s) b refl)) (λ mo e.
       let b = next-marked s w 4 (code "-") mo (lit< tt) b e in
       let w = w ++ marked (code "-") mo in
-      on_value H (readMarked (code "-") (drop 7 s)) (on-t Exact _ (drop 7 s) (end-t _ w (drop 7 s) b refl)) (λ d e.
+      on-value H (readMarked (code "-") (drop 7 s)) (on-t Exact _ (drop 7 s) (end-t _ w (drop 7 s) b refl)) (λ d e.
       let b = next-marked s w 7 (code "-") d (lit< tt) b e in
       let w = w ++ marked (code "-") d in
-      on_value H (readMarked (code "T") (drop 10 s))
+      on-value H (readMarked (code "T") (drop 10 s))
       (on-date Exact _ (drop 10 s) (end-date _ y mo d b refl) (end-t _ w (drop 10 s) b refl)) (λ h e.
       let b = next-marked s w 10 (code "T") h (lit< tt) b e in
       let w = w ++ marked (code "T") h in
-      on_value H (readMarked (code ":") (drop 13 s)) tt (λ mi e.
+      on-value H (readMarked (code ":") (drop 13 s)) tt (λ mi e.
       let b = next-marked s w 13 (code ":") mi (lit< tt) b e in
       let w = w ++ marked (code ":") mi in
       let f = withHourAndMinute (withDay (withMonth (withYear y) mo) d) h mi in
-      on_value H (readMarked (code ":") (drop 16 s))
+      on-value H (readMarked (code ":") (drop 16 s))
       (on-offset Exact f (drop 16 s) (end-offset f w (drop 16 s) (λ l. b) (λ o. refl))) (λ n e.
       let b = next-marked s w 16 (code ":") n (lit< tt) b e in
       let w = w ++ marked (code ":") n in
       let f = withSecond f n in
       on-second Exact f (drop 19 s)
-      (end-offset f w (drop 19 s) (λ l. b) (λ o. ap (λ (l : List ℕ). l ++ offsetText (offset_of (rawOf o))) (append-nil w)))
+      (end-offset f w (drop 19 s) (λ l. b) (λ o. ap (λ (l : List ℕ). l ++ offsetText (offsetOf (rawOf o))) (append-nil w)))
       (end-digits f w (drop 19 s) b (λ x o. refl))))))))
 
 -- ---- what is answered
@@ -166,7 +166,7 @@ on-built P s h k = go (readText s) k
     go Broken k = h formBroken (λ e. omega arith)
     go (Form f) k =
         let n = buildNumber f in
-        on_test P (eqb n 0) (λ e. k f refl (eqb-true n 0 e)) (λ e. h n (eqb-false n 0 e))
+        on-test P (eqb n 0) (λ e. k f refl (eqb-true n 0 e)) (λ e. h n (eqb-false n 0 e))
 
 -- 18 is answered to texts in none of the forms, and to no others
 pub broken-exact : (s : List ℕ)
@@ -177,7 +177,7 @@ broken-exact s = (go (readText s), ap builtFrom)
     go : (x : TextRead) → (builtFrom x).number ≡ formBroken → x ≡ Broken
     go Broken e = refl
     go (Form f) e =
-        absurd (on_test (λ (b : Built). b.number ≡ formBroken → ⊥) (eqb (buildNumber f) 0) (λ z h. omega arith)
+        absurd (on-test (λ (b : Built). b.number ≡ formBroken → ⊥) (eqb (buildNumber f) 0) (λ z h. omega arith)
         (λ z h. omega (arith, build-most f)) e)
 
 -- what is read as a timestamp is one of its texts
@@ -198,7 +198,7 @@ refused-alone s =
     on-built (λ (b : Built). (b.number ≡ 0 → ⊥) → b ≡ refusedBuild b.number) s (λ n h e. refl) (λ f q z h. absurd (h refl))
 
 -- what is read, written again, is read again as the same pair
-pub read_again : (s : List ℕ) → (readTextOf s).number ≡ 0 → readTextOf (text_of (readTextOf s).stamp) ≡ readTextOf s
-read_again s e =
+pub read-again : (s : List ℕ) → (readTextOf s).number ≡ 0 → readTextOf (textOf (readTextOf s).stamp) ≡ readTextOf s
+read-again s e =
     let t = (readTextOf s).stamp in
     text-back t (read-accepted s e) ∙ (λ i. record { number = sym e i; stamp = t })

@@ -10,7 +10,7 @@ use lib.Dec.{eqb, leb, lit<, lit≤}
 use lib.ListN.{length, take, drop, get_or, take-append-drop}
 use lib.Seq.{drop-drop}
 use borrow.Author.Tests.{leb-true, eqb-true, ne_eqb}
-use Rattle.places.proofs.Values.{Bytes, bytes-are, bytes_below}
+use Rattle.places.proofs.Values.{Bytes, bytes-are, bytes-below}
 use Rattle.ion.specs.Numbers.Padded.{digit, lastDigits, padded}
 use Rattle.ion.specs.Text.Format.{marked, fractionText}
 use Rattle.ion.specs.Text.ReadText.{isDigit, digitRun, digitOf, digitsValue, readDigits, readMarked, digitsFraction}
@@ -18,7 +18,7 @@ use Rattle.ion.specs.declared.DigitsRead.{DigitsRead}
 use Rattle.ion.specs.declared.DigitsRead.TheVariants.{Value, Missing}
 use Rattle.fraction.proofs.Scales.{scale-pos}
 use Rattle.text.proofs.Digits.{padded-digits}
-use Rattle.text_reader.proofs.Forms.{on_test}
+use Rattle.text_reader.proofs.Forms.{on-test}
 use Rattle.text_reader.proofs.Runs.{digit-within}
 
 -- a digit is the byte of what it stands for
@@ -36,15 +36,15 @@ unfolding digitRun
 run-digits zero s h = (tt, refl)
 run-digits (suc k) [] h = absurd (omega arith)
 run-digits (suc k) (b ∷ s) h =
-    on_test (λ (n : ℕ). suc k ≤ n → Digits (suc k) (b ∷ take k s)) (isDigit b) (λ e l.
+    on-test (λ (n : ℕ). suc k ≤ n → Digits (suc k) (b ∷ take k s)) (isDigit b) (λ e l.
     let r = run-digits k s (omega arith) in ((digit-byte b e, r.0), ap suc r.1)) (λ e l. absurd (omega arith)) h
 
 -- the number that they make is below 10 ^ k, and they are its digits
-pub run_value : (k : ℕ) (s : List ℕ) → k ≤ digitRun s → (digitsValue k s < 10 ^ k) × (lastDigits k (digitsValue k s) ≡ take k s)
+pub run-value : (k : ℕ) (s : List ℕ) → k ≤ digitRun s → (digitsValue k s < 10 ^ k) × (lastDigits k (digitsValue k s) ≡ take k s)
 unfolding digitsValue
-run_value k s h =
+run-value k s h =
     let r = run-digits k s h in
-    (rw r.1 at (bytes_below 10 digit digitOf (take k s) r.0), rw r.1 at (bytes-are 10 digit digitOf (take k s) r.0))
+    (rw r.1 at (bytes-below 10 digit digitOf (take k s) r.0), rw r.1 at (bytes-are 10 digit digitOf (take k s) r.0))
 
 -- what a reading of k digits says of the text
 abbrev BeginsWith : ℕ → List ℕ → DigitsRead → Type 0
@@ -54,8 +54,8 @@ BeginsWith k s Missing = Unit
 digits-begin : (k : ℕ) (s : List ℕ) → 1 ≤ k → BeginsWith k s (readDigits k s)
 unfolding readDigits
 digits-begin k s h =
-    on_test (BeginsWith k s) (leb k (digitRun s)) (λ e.
-    let v = run_value k s (leb-true k (digitRun s) e) in
+    on-test (BeginsWith k s) (leb k (digitRun s)) (λ e.
+    let v = run-value k s (leb-true k (digitRun s) e) in
     sym (ap (λ (t : List ℕ). t ++ drop k s) (padded-digits k (digitsValue k s) h v.0 ∙ v.1) ∙ take-append-drop k s)) (λ e. tt)
 
 pub digits-exact : (k n : ℕ) (s : List ℕ) → 1 ≤ k → readDigits k s ≡ Value n → s ≡ padded k n ++ drop k s
@@ -76,7 +76,7 @@ two-marked c n r h f e =
 marked-exact : (mark n : ℕ) (r : List ℕ) → 0 < mark → readMarked mark r ≡ Value n → r ≡ marked mark n ++ drop 3 r
 unfolding readMarked
 marked-exact mark n r h =
-    on_test (λ (x : DigitsRead). x ≡ Value n → r ≡ marked mark n ++ drop 3 r) (eqb (get_or r 0 0) mark)
+    on-test (λ (x : DigitsRead). x ≡ Value n → r ≡ marked mark n ++ drop 3 r) (eqb (get_or r 0 0) mark)
     (λ t e. two-marked mark n r h (eqb-true (get_or r 0 0) mark t) e) (λ t e. absurd (let z : ◌≡◌ {A = ℕ} 0 1 = cc in omega arith))
 
 -- the same from index at on, after w
@@ -95,7 +95,7 @@ fraction-digits : (t : List ℕ) → (digitRun t ≡ 0 → ⊥) → digitRun t �
 unfolding fractionText
 fraction-digits t h l =
     let n = digitRun t in
-    let v = run_value n t (omega arith) in
+    let v = run-value n t (omega arith) in
     let e₁ : min n 18 ≡ n = omega arith in
     let e₂ : min n 19 ≡ n = omega arith in
     rw (e₁, e₂, ne_eqb n 0 h, mul-div_cancel (digitsValue n t) (scale-pos n))

@@ -24,8 +24,8 @@ use Rattle.ion.specs.declared.offset.Offset.{Offset}
 use Rattle.ion.specs.declared.offset.Offset.TheVariants.{Known}
 use Rattle.ion.specs.declared.OffsetRead.{OffsetRead}
 use Rattle.ion.specs.declared.OffsetRead.TheVariants.{Found, Wrong}
-use Rattle.ion.proofs.Same.{same_refl, same-is}
-use Rattle.text_reader.proofs.Forms.{on_test, on_value}
+use Rattle.ion.proofs.Same.{same-refl, same-is}
+use Rattle.text_reader.proofs.Forms.{on-test, on-value}
 use Rattle.text_reader.proofs.ExactDigits.{two-marked, next-marked}
 
 -- ---- the texts of offsets
@@ -56,7 +56,7 @@ no-clock = refl
 
 on-either : (P : OffsetRead → Type 0) (s t : Bool) {a b : OffsetRead} → (s ≡ true → P a) → (t ≡ true → P a) → P b → P (cond (s || t) a b)
 on-either P true t h k l = h refl
-on-either P false t h k l = on_test P t k (λ e. l)
+on-either P false t h k l = on-test P t k (λ e. l)
 
 module _ (r : List ℕ) where
   -- what a reading says of the text
@@ -64,10 +64,10 @@ module _ (r : List ℕ) where
   Is (Found o) = OffsetFor o r
   Is Wrong = Unit
 
-  minus_is : (n : ℕ) → same r unknownText ≡ false → r ≡ code "-" ∷ clockText n → Is (knownOffset (neg_ℤ (pos n)))
+  minus-is : (n : ℕ) → same r unknownText ≡ false → r ≡ code "-" ∷ clockText n → Is (knownOffset (neg_ℤ (pos n)))
   unfolding offsetText minutesText
-  minus_is zero f e = absurd (false≢true (sym f ∙ ap (λ (l : List ℕ). same l unknownText) (e ∙ no-clock) ∙ same_refl unknownText))
-  minus_is (suc n) f e = inl e
+  minus-is zero f e = absurd (false≢true (sym f ∙ ap (λ (l : List ℕ). same l unknownText) (e ∙ no-clock) ∙ same-refl unknownText))
+  minus-is (suc n) f e = inl e
 
   -- six bytes: a sign, hours and minutes
   signed-bytes : (c h m : ℕ) → 0 < c → get_or r 0 0 ≡ c → length r ≡ 6 → m ≤ 59 → readDigits 2 (drop 1 r) ≡ Value h
@@ -79,30 +79,30 @@ module _ (r : List ℕ) where
       ∙ append-nil (marked c h ++ marked (code ":") m)
       ∙ ap (λ (t : List ℕ). c ∷ t) (clock-is h m l)
 
-  signed_is : (h m : ℕ) → same r unknownText ≡ false → length r ≡ 6 → readDigits 2 (drop 1 r) ≡ Value h
+  signed-is : (h m : ℕ) → same r unknownText ≡ false → length r ≡ 6 → readDigits 2 (drop 1 r) ≡ Value h
       → readMarked (code ":") (drop 3 r) ≡ Value m → Is (signedClock (get_or r 0 0) h m)
   unfolding signedClock offsetText
-  signed_is h m f n a b =
+  signed-is h m f n a b =
       let c = get_or r 0 0 in
-      on_test Is (ltb 59 m) (λ e. tt) (λ l.
-      on_test Is (eqb c (code "+"))
+      on-test Is (ltb 59 m) (λ e. tt) (λ l.
+      on-test Is (eqb c (code "+"))
       (λ e. inl (signed-bytes (code "+") h m (lit< tt) (eqb-true c (code "+") e) n (ltb-false 59 m l) a b ∙ plus-text (h * 60 + m))) (λ p.
-      on_test Is (eqb c (code "-"))
-      (λ e. minus_is (h * 60 + m) f (signed-bytes (code "-") h m (lit< tt) (eqb-true c (code "-") e) n (ltb-false 59 m l) a b)) (λ q. tt)))
+      on-test Is (eqb c (code "-"))
+      (λ e. minus-is (h * 60 + m) f (signed-bytes (code "-") h m (lit< tt) (eqb-true c (code "-") e) n (ltb-false 59 m l) a b)) (λ q. tt)))
 
   clock-read : same r unknownText ≡ false → Is (readClock r)
   unfolding readClock
   clock-read f =
-      on_test Is (eqb (length r) 6) (λ n.
-      on_value Is (readDigits 2 (drop 1 r)) tt (λ h a.
-      on_value Is (readMarked (code ":") (drop 3 r)) tt (λ m b. signed_is h m f (eqb-true (length r) 6 n) a b))) (λ n. tt)
+      on-test Is (eqb (length r) 6) (λ n.
+      on-value Is (readDigits 2 (drop 1 r)) tt (λ h a.
+      on-value Is (readMarked (code ":") (drop 3 r)) tt (λ m b. signed-is h m f (eqb-true (length r) 6 n) a b))) (λ n. tt)
 
-  offset_read : Is (readOffset r)
+  offset-read : Is (readOffset r)
   unfolding readOffset offsetText minutesText
-  offset_read =
-      on_test Is (same r unknownText) (λ e. inl (same-is r unknownText e)) (λ f.
+  offset-read =
+      on-test Is (same r unknownText) (λ e. inl (same-is r unknownText e)) (λ f.
       on-either Is (same r zeroText) (same r (ascii "Z")) (λ e. inl (same-is r zeroText e)) (λ e. inr (same-is r (ascii "Z") e, refl))
       (clock-read f))
 
   pub offset-exact : (o : Offset) → readOffset r ≡ Found o → OffsetFor o r
-  offset-exact o e = subst Is e offset_read
+  offset-exact o e = subst Is e offset-read

@@ -55,9 +55,9 @@ module _ (s : List ℕ) where
 
   -- ---- and then no more of them
 
-  pub none_read : readDigits 4 s ≡ Missing → FieldsAre s (fieldsRead 0 precision.Year 0 0 0 0 0 0)
+  pub none-read : readDigits 4 s ≡ Missing → FieldsAre s (fieldsRead 0 precision.Year 0 0 0 0 0 0)
   unfolding readText
-  none_read e = record { most = omega arith; inside = λ h. absurd (omega arith); form = rw e }
+  none-read e = record { most = omega arith; inside = λ h. absurd (omega arith); form = rw e }
 
   pub year-read : (y : ℕ) → Year y → readMarked (code "-") (drop 4 s) ≡ Missing
       → FieldsAre s (fieldsRead 1 precision.Year y 1 1 0 0 0)

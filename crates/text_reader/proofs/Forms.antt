@@ -29,14 +29,14 @@ use Rattle.ion.proofs.Same.{same-is}
 use Rattle.builder.proofs.Stages.{to-minute, to-second, gives-staged}
 
 -- by a test, and by what is read as a number
-pub on_test : {A : Type 0} (P : A → Type 0) (t : Bool) {a b : A} → (t ≡ true → P a) → (t ≡ false → P b) → P (cond t a b)
-on_test P true h k = h refl
-on_test P false h k = k refl
+pub on-test : {A : Type 0} (P : A → Type 0) (t : Bool) {a b : A} → (t ≡ true → P a) → (t ≡ false → P b) → P (cond t a b)
+on-test P true h k = h refl
+on-test P false h k = k refl
 
-pub on_value : {A : Type 0} (P : A → Type 0) (r : DigitsRead) {a : A} {make : ℕ → A} → P a → ((n : ℕ) → r ≡ Value n → P (make n))
+pub on-value : {A : Type 0} (P : A → Type 0) (r : DigitsRead) {a : A} {make : ℕ → A} → P a → ((n : ℕ) → r ≡ Value n → P (make n))
     → P (onValue r a make)
-on_value P (Value n) h k = k n refl
-on_value P Missing h k = h
+on-value P (Value n) h k = k n refl
+on-value P Missing h k = h
 
 -- a law of the local fields, where there are any
 module _ (P : BuilderFields → Type 0) where
@@ -46,11 +46,11 @@ module _ (P : BuilderFields → Type 0) where
 
   pub on-t : (f : BuilderFields) (r : List ℕ) → (r ≡ ascii "T" → P f) → Holds (endT f r)
   unfolding endT
-  on-t f r h = on_test Holds (same r (ascii "T")) (λ e. h (same-is r (ascii "T") e)) (λ e. tt)
+  on-t f r h = on-test Holds (same r (ascii "T")) (λ e. h (same-is r (ascii "T") e)) (λ e. tt)
 
   pub on-date : (f : BuilderFields) (r : List ℕ) → (r ≡ [] → P f) → (r ≡ ascii "T" → P f) → Holds (endDate f r)
   unfolding endDate
-  on-date f r h k = on_test Holds (same r []) (λ e. h (same-is r [] e)) (λ e. on-t f r k)
+  on-date f r h k = on-test Holds (same r []) (λ e. h (same-is r [] e)) (λ e. on-t f r k)
 
   -- of the fields f at an end in the offset r
   abbrev pub AtOffset : BuilderFields → List ℕ → Type 0
@@ -72,13 +72,13 @@ module _ (P : BuilderFields → Type 0) where
   unfolding endDigits
   on-digits f r h =
       let n = digitRun r in
-      on_test Holds (eqb n 0) (λ e. tt) (λ e. on-offset (withFraction f (digitsFraction n r)) (drop n r) (h (eqb-false n 0 e)))
+      on-test Holds (eqb n 0) (λ e. tt) (λ e. on-offset (withFraction f (digitsFraction n r)) (drop n r) (h (eqb-false n 0 e)))
 
   pub on-second : (f : BuilderFields) (r : List ℕ) → AtOffset f r → (get_or r 0 0 ≡ code "." → AtDigits f (drop 1 r)) → Holds (endSecond f r)
   unfolding endSecond
   on-second f r h k =
       let b = get_or r 0 0 in
-      on_test Holds (eqb b (code ".")) (λ e. on-digits f (drop 1 r) (k (eqb-true b (code ".") e))) (λ e. on-offset f r h)
+      on-test Holds (eqb b (code ".")) (λ e. on-digits f (drop 1 r) (k (eqb-true b (code ".") e))) (λ e. on-offset f r h)
 
 -- ---- the stages
 
@@ -92,13 +92,13 @@ all-staged : (s : List ℕ) → Holds Staged (readText s)
 unfolding readText
 all-staged s =
     let H = Holds Staged in
-    on_value H (readDigits 4 s) tt (λ y e₁.
-    on_value H (readMarked (code "-") (drop 4 s)) (on-t Staged _ (drop 4 s) (λ e. gives-staged (year y))) (λ mo e₂.
-    on_value H (readMarked (code "-") (drop 7 s)) (on-t Staged _ (drop 7 s) (λ e. gives-staged (month (year y) mo))) (λ d e₃.
+    on-value H (readDigits 4 s) tt (λ y e₁.
+    on-value H (readMarked (code "-") (drop 4 s)) (on-t Staged _ (drop 4 s) (λ e. gives-staged (year y))) (λ mo e₂.
+    on-value H (readMarked (code "-") (drop 7 s)) (on-t Staged _ (drop 7 s) (λ e. gives-staged (month (year y) mo))) (λ d e₃.
     let date = gives-staged (day (month (year y) mo) d) in
-    on_value H (readMarked (code "T") (drop 10 s)) (on-date Staged _ (drop 10 s) (λ e. date) (λ e. date)) (λ h e₄.
-    on_value H (readMarked (code ":") (drop 13 s)) tt (λ mi e₅.
-    on_value H (readMarked (code ":") (drop 16 s)) (on-offset Staged _ (drop 16 s) (λ o e. to-minute (fromLocal o) y mo d h mi)) (λ x e₆.
+    on-value H (readMarked (code "T") (drop 10 s)) (on-date Staged _ (drop 10 s) (λ e. date) (λ e. date)) (λ h e₄.
+    on-value H (readMarked (code ":") (drop 13 s)) tt (λ mi e₅.
+    on-value H (readMarked (code ":") (drop 16 s)) (on-offset Staged _ (drop 16 s) (λ o e. to-minute (fromLocal o) y mo d h mi)) (λ x e₆.
     on-second Staged _ (drop 19 s) (λ o e. to-second (fromLocal o) y mo d h mi x 0 0 (λ l. refl)) (λ p n o e.
     to-second (fromLocal o) y mo d h mi x _ _ (λ l. fraction-multiple (digitRun (drop 1 (drop 19 s))) (drop 1 (drop 19 s))))))))))
 

@@ -17,15 +17,15 @@ use Rattle.ion.specs.declared.DigitsRead.TheVariants.{Value}
 digit-is : (d : ℕ) → d < 10 → isDigit (digit d) ≡ true
 digit-is d h = rw (le-leb 48 (digit d) (omega arith), le-leb (digit d) 57 (omega arith))
 
-run_on : (k q : ℕ) (t : List ℕ) → digitRun (placesOn 10 digit k q t) ≡ k + digitRun t
+run-on : (k q : ℕ) (t : List ℕ) → digitRun (placesOn 10 digit k q t) ≡ k + digitRun t
 unfolding placesOn digitRun
-run_on zero q t = sym (zero-add (digitRun t))
-run_on (suc k) q t = run_on k (q / 10) (digit (q % 10) ∷ t) ∙ rw (digit-is (q % 10) (omega arith)) (omega arith)
+run-on zero q t = sym (zero-add (digitRun t))
+run-on (suc k) q t = run-on k (q / 10) (digit (q % 10) ∷ t) ∙ rw (digit-is (q % 10) (omega arith)) (omega arith)
 
 -- a run of digits goes on with what follows
 pub run-digits : (k n : ℕ) (r : List ℕ) → digitRun (lastDigits k n ++ r) ≡ k + digitRun r
 unfolding places
-run-digits k n r = ap digitRun (places-append 10 digit k n [] r) ∙ run_on k n r
+run-digits k n r = ap digitRun (places-append 10 digit k n [] r) ∙ run-on k n r
 
 module _ (k n : ℕ) (r : List ℕ) (h : n < 10 ^ k) where
   -- k digits of a number below 10 ^ k are read back as that number, whatever follows

@@ -21,7 +21,7 @@ use Rattle.ion.specs.declared.offset.Offset.{Offset}
 use Rattle.ion.specs.declared.offset.Offset.TheVariants.{Unknown, Known}
 use Rattle.ion.specs.declared.DigitsRead.TheVariants.{Missing}
 use Rattle.ion.specs.declared.OffsetRead.TheVariants.{Found}
-use Rattle.ion.proofs.Same.{same_not}
+use Rattle.ion.proofs.Same.{same-not}
 use Rattle.text.proofs.Digits.{padded-digits}
 use Rattle.text_reader.proofs.Numbers.{read-digits, read-marked}
 
@@ -32,7 +32,7 @@ clock-digits n h = rw (padded-digits 2 (n / 60) (lit≤ tt) (omega arith), padde
 -- a clock of some minutes is not that of none
 clock-some : (c n : ℕ) → 0 < n → n < 1440 → same (c ∷ clockText n) (c ∷ ascii "00:00") ≡ false
 unfolding places placesOn digitsValue valueFrom
-clock-some c n l h = same_not (c ∷ clockText n) (c ∷ ascii "00:00") apart
+clock-some c n l h = same-not (c ∷ clockText n) (c ∷ ascii "00:00") apart
   where
     apart : c ∷ clockText n ≡ c ∷ ascii "00:00" → ⊥
     apart e =
@@ -70,11 +70,11 @@ read-offset (Known m) h = read-minutes m.0 h
 pub record Begins (r : List ℕ) : Type 0 where
   pub no-mark : readMarked (code ":") r ≡ Missing
   pub no-point : eqb (get_or r 0 0) (code ".") ≡ false
-  pub no_digit : digitRun r ≡ 0
+  pub no-digit : digitRun r ≡ 0
 
 begins : (c : ℕ) (t : List ℕ) → eqb c (code ":") ≡ false → eqb c (code ".") ≡ false → isDigit c ≡ false → Begins (c ∷ t)
 unfolding readMarked digitRun
-begins c t m p d = record { no-mark = rw m; no-point = p; no_digit = rw d }
+begins c t m p d = record { no-mark = rw m; no-point = p; no-digit = rw d }
 
 pub z-begins : Begins (ascii "Z")
 z-begins = begins (code "Z") [] refl refl refl

@@ -12,15 +12,15 @@ use Rattle.places.specs.Places.{placesOn, places}
 use Rattle.places.proofs.Laws.{length-places}
 use Rattle.ion.specs.Text.Ascii.{ascii}
 use Rattle.ion.specs.Numbers.Padded.{digit, lastDigits, padded}
-use Rattle.ion.specs.Pair.Word.{fields_of}
-use Rattle.ion.specs.Pair.Pair.{word_in, packedPair}
-use Rattle.ion.specs.Pair.Offset.{offset_of}
+use Rattle.ion.specs.Pair.Word.{fieldsOf}
+use Rattle.ion.specs.Pair.Pair.{wordIn, packedPair}
+use Rattle.ion.specs.Pair.Offset.{offsetOf}
 use Rattle.ion.specs.Pair.Fraction.{scale}
 use Rattle.ion.specs.Calls.Stages.{withYear, withMonth, withDay, withHourAndMinute, withSecond, withFraction, withOffset}
 use Rattle.ion.specs.Calls.Build.{acceptedBuild}
 use Rattle.ion.specs.Calls.Check.{fromLocal, fractionAt, rebuilt}
 use Rattle.ion.specs.Calls.Accepted.{Valid, Accepted}
-use Rattle.ion.specs.Text.Format.{marked, fractionText, zeroText, offsetText, fieldsText, text_of}
+use Rattle.ion.specs.Text.Format.{marked, fractionText, zeroText, offsetText, fieldsText, textOf}
 use Rattle.ion.specs.Value.ReadValue.{same}
 use Rattle.ion.specs.Text.ReadText.{digitRun, readDigits, readMarked, readOffset, ended, endOffset, endT, endDate, endDigits, endSecond}
 use Rattle.ion.specs.Text.ReadText.{readText, builtFrom, readTextOf}
@@ -31,7 +31,7 @@ use Rattle.ion.specs.declared.TextRead.TheVariants.{Form}
 use Rattle.ion.specs.declared.Timestamp.{Timestamp}
 use Rattle.ion.specs.declared.Built.{Built}
 use Rattle.text.proofs.Digits.{padded-digits}
-use Rattle.fraction.proofs.Scales.{units_lt}
+use Rattle.fraction.proofs.Scales.{units-lt}
 use Rattle.timestamp.proofs.Valid.{valid-in-range, valid-offset, accepted-word}
 use Rattle.timestamp.proofs.CheckedFields.{rebuilt-builds}
 use Rattle.timestamp_text.specs.TextParts.{toMonth, toDay, toMinute, toSecond, toFraction, textLength}
@@ -45,9 +45,9 @@ record TwoDigits (c n : ℕ) : Type 0 where
   text : marked c n ≡ c ∷ lastDigits 2 n
   read : (t : List ℕ) → readMarked c (c ∷ lastDigits 2 n ++ t) ≡ Value n
 
-two_digits : (c n : ℕ) → n < 100 → TwoDigits c n
+two-digits : (c n : ℕ) → n < 100 → TwoDigits c n
 unfolding marked
-two_digits c n h = record { text = rw (padded-digits 2 n (lit≤ tt) h); read = λ t. read-marked c n t h }
+two-digits c n h = record { text = rw (padded-digits 2 n (lit≤ tt) h); read = λ t. read-marked c n t h }
 
 -- only a full date with its T has eleven bytes
 date-precision : (p d : ℕ) → p ≤ 4 → textLength p d ≡ 11 → p ≡ 2
@@ -59,8 +59,8 @@ date-precision (suc (suc (suc (suc zero)))) d l e = absurd (omega arith)
 date-precision (suc (suc (suc (suc (suc p))))) d l e = absurd (omega arith)
 
 -- lists that are equal, and end in lists of one length
-same_end : (u w x y : List ℕ) → length x ≡ length y → u ++ x ≡ w ++ y → (u ≡ w) × (x ≡ y)
-same_end u w x y n e =
+same-end : (u w x y : List ℕ) → length x ≡ length y → u ++ x ≡ w ++ y → (u ≡ w) × (x ≡ y)
+same-end u w x y n e =
     let m : length u ≡ length w = omega (arith, length-append u x, length-append w y, ap length e) in (
       sym (take_at u x (length w) m) ∙ ap (take (length w)) e ∙ take_at w y (length w) refl,
       sym (drop_at u x (length w) m) ∙ ap (drop (length w)) e ∙ drop_at w y (length w) refl,
@@ -69,9 +69,9 @@ same_end u w x y n e =
 -- how a text ends: in a T, or in an offset, in place of which any other is read
 data Ends (f : Fields) (a : ℕ) : Type 0 where
   in-t : (u : List ℕ) → fieldsText f a ≡ u ++ ascii "T" → readText (u ++ ascii "T") ≡ Form (rebuilt f a) → Ends f a
-  in-offset : (u : List ℕ) (g : BuilderFields) → fieldsText f a ≡ u ++ offsetText (offset_of f.offset)
+  in-offset : (u : List ℕ) (g : BuilderFields) → fieldsText f a ≡ u ++ offsetText (offsetOf f.offset)
       → ((r : List ℕ) → Begins r → readText (u ++ r) ≡ endOffset g r)
-      → withOffset g (fromLocal (offset_of f.offset)) ≡ rebuilt f a → Ends f a
+      → withOffset g (fromLocal (offsetOf f.offset)) ≡ rebuilt f a → Ends f a
 
 module _ (f : Fields) (a : ℕ) (v : Valid f a) where
   year : padded 4 f.year ≡ lastDigits 4 f.year
@@ -81,19 +81,19 @@ module _ (f : Fields) (a : ℕ) (v : Valid f a) where
   read-year t = read-digits 4 f.year t (omega arith)
 
   month : TwoDigits (code "-") f.month
-  month = two_digits (code "-") f.month (omega (arith, valid-in-range v))
+  month = two-digits (code "-") f.month (omega (arith, valid-in-range v))
 
   day : TwoDigits (code "-") f.day
-  day = two_digits (code "-") f.day (omega (arith, valid-in-range v))
+  day = two-digits (code "-") f.day (omega (arith, valid-in-range v))
 
   hour : TwoDigits (code "T") f.hour
-  hour = two_digits (code "T") f.hour (omega arith)
+  hour = two-digits (code "T") f.hour (omega arith)
 
   minute : TwoDigits (code ":") f.minute
-  minute = two_digits (code ":") f.minute (omega arith)
+  minute = two-digits (code ":") f.minute (omega arith)
 
   second : TwoDigits (code ":") f.second
-  second = two_digits (code ":") f.second (omega arith)
+  second = two-digits (code ":") f.second (omega arith)
 
   abbrev atMonth : BuilderFields
   atMonth = withMonth (withYear f.year) f.month
@@ -144,8 +144,8 @@ module _ (f : Fields) (a : ℕ) (v : Valid f a) where
   fraction-then (suc n) l t b =
       let d = suc n in
       let c = a / scale d in
-      let h = units_lt d a l v.attoseconds in
-      let run : digitRun (lastDigits d c ++ t) ≡ d = run-digits d c t ∙ omega (arith, b.no_digit) in
+      let h = units-lt d a l v.attoseconds in
+      let run : digitRun (lastDigits d c ++ t) ≡ d = run-digits d c t ∙ omega (arith, b.no-digit) in
       let rest = drop_at (lastDigits d c) t d (length-places 10 digit d c) in
       let e₁ : min d 18 ≡ d = omega arith in
       let e₂ : min d 19 ≡ d = omega arith in
@@ -180,7 +180,7 @@ module _ (f : Fields) (a : ℕ) (v : Valid f a) where
       go : Ends f a → readText (fieldsText f a) ≡ Form (rebuilt f a)
       go (in-t u e r) = ap readText e ∙ r
       go (in-offset u g e r w) =
-          let o = offset_of f.offset in
+          let o = offsetOf f.offset in
           ap readText e ∙ r (offsetText o) (offset-begins o) ∙ ap (ended g) (read-offset o (valid-offset v)) ∙ ap Form w
 
   -- a full date without its T
@@ -200,11 +200,11 @@ module _ (f : Fields) (a : ℕ) (v : Valid f a) where
     where
       go : Ends f a → readText (u ++ ascii "Z") ≡ Form (rebuilt f a)
       go (in-t w x r) =
-          let k = same_end (u ++ ascii "+00:0") w (ascii "0") (ascii "T") refl (append_assoc u (ascii "+00:0") (ascii "0") ∙ e ∙ x) in
+          let k = same-end (u ++ ascii "+00:0") w (ascii "0") (ascii "T") refl (append_assoc u (ascii "+00:0") (ascii "0") ∙ e ∙ x) in
           absurd (omega (arith, ap (λ (s : List ℕ). get_or s 0 0) k.1))
       go (in-offset w g x r y) =
-          let o = offset_of f.offset in
-          let k = same_end u w zeroText (offsetText o) (sym (length-offset o (valid-offset v))) (e ∙ x) in
+          let o = offsetOf f.offset in
+          let k = same-end u w zeroText (offsetText o) (sym (length-offset o (valid-offset v))) (e ∙ x) in
           ap (λ (s : List ℕ). readText (s ++ ascii "Z")) k.0
           ∙ r (ascii "Z") z-begins
           ∙ ap (endOffset g) k.1
@@ -215,27 +215,27 @@ module _ (f : Fields) (a : ℕ) (v : Valid f a) where
 -- ---- the packed pair
 
 module _ (t : Timestamp) (p : Accepted t) where
-  read_as : (s : List ℕ) → readText s ≡ Form (rebuilt (fields_of (word_in t)) t.attoseconds) → readTextOf s ≡ acceptedBuild t
+  read-as : (s : List ℕ) → readText s ≡ Form (rebuilt (fieldsOf (wordIn t)) t.attoseconds) → readTextOf s ≡ acceptedBuild t
   unfolding readTextOf
-  read_as s e =
+  read-as s e =
       ap builtFrom e
       ∙ rebuilt-builds p.fields
       ∙ ap (λ (n : ℕ). acceptedBuild (packedPair n t.attoseconds)) (accepted-word p)
 
-  pub text-back : readTextOf (text_of t) ≡ acceptedBuild t
-  unfolding text_of
-  text-back = read_as (text_of t) (read-text _ _ p.fields)
+  pub text-back : readTextOf (textOf t) ≡ acceptedBuild t
+  unfolding textOf
+  text-back = read-as (textOf t) (read-text _ _ p.fields)
 
 -- each of its texts
 pub texts-read : (t : Timestamp) (s : List ℕ) → Accepted t → TextFor t s → readTextOf s ≡ acceptedBuild t
-unfolding text_of
+unfolding textOf
 texts-read t s p (written e) = ap readTextOf e ∙ text-back t p
-texts-read t s p (without-t n e) = read_as t p s (read-date _ _ p.fields s n e)
-texts-read t s p (with-z r e x) = ap readTextOf e ∙ read_as t p (r ++ ascii "Z") (read-utc _ _ p.fields r x)
+texts-read t s p (without-t n e) = read-as t p s (read-date _ _ p.fields s n e)
+texts-read t s p (with-z r e x) = ap readTextOf e ∙ read-as t p (r ++ ascii "Z") (read-utc _ _ p.fields r x)
 
 -- a text is that of one timestamp
 pub texts-inj : (s t : Timestamp) (x : List ℕ) → Accepted s → Accepted t → TextFor s x → TextFor t x → s ≡ t
 texts-inj s t x p q h k = ap (λ (b : Built). b.stamp) (sym (texts-read s x p h) ∙ texts-read t x q k)
 
-pub text-inj : (s t : Timestamp) → Accepted s → Accepted t → text_of s ≡ text_of t → s ≡ t
-text-inj s t p q e = texts-inj s t (text_of s) p q (written refl) (written e)
+pub text-inj : (s t : Timestamp) → Accepted s → Accepted t → textOf s ≡ textOf t → s ≡ t
+text-inj s t p q e = texts-inj s t (textOf s) p q (written refl) (written e)

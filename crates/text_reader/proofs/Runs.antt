@@ -48,9 +48,9 @@ run-le (b ∷ s) = go (isDigit b) (run-le s)
     go true h = omega arith
     go false h = omega arith
 
-cond_same : (t : Bool) → cond t Missing Missing ≡ Missing
-cond_same true = refl
-cond_same false = refl
+cond-same : (t : Bool) → cond t Missing Missing ≡ Missing
+cond-same true = refl
+cond-same false = refl
 
 pub digits-short : (k : ℕ) (s : List ℕ) → length s < k → readDigits k s ≡ Missing
 unfolding readDigits
@@ -105,18 +105,18 @@ year-of (a ∷ b ∷ c ∷ d ∷ t) h = four-of a b c d t
 -- ---- a mark at an index, and two digits
 
 module _ (s : List ℕ) (at mark : ℕ) where
-  at_mark : get_or (drop at s) 0 0 ≡ get_or s at 0
-  at_mark = get_or-drop at s 0 0 ∙ ap (λ (i : ℕ). get_or s i 0) (omega arith)
+  at-mark : get_or (drop at s) 0 0 ≡ get_or s at 0
+  at-mark = get_or-drop at s 0 0 ∙ ap (λ (i : ℕ). get_or s i 0) (omega arith)
 
   pub marked-short : length s < at + 3 → readMarked mark (drop at s) ≡ Missing
   unfolding readMarked
   marked-short h =
       rw (digits-short 2 (drop 1 (drop at s)) (omega (arith, length-drop at s, length-drop 1 (drop at s))))
-      (cond_same (eqb (get_or (drop at s) 0 0) mark))
+      (cond-same (eqb (get_or (drop at s) 0 0) mark))
 
-  pub marked_other : (get_or s at 0 ≡ mark → ⊥) → readMarked mark (drop at s) ≡ Missing
+  pub marked-other : (get_or s at 0 ≡ mark → ⊥) → readMarked mark (drop at s) ≡ Missing
   unfolding readMarked
-  marked_other h = rw (at_mark, ne_eqb (get_or s at 0) mark h)
+  marked-other h = rw (at-mark, ne_eqb (get_or s at 0) mark h)
 
   pub marked-two : at + 3 ≤ length s → get_or s at 0 ≡ mark
       → readMarked mark (drop at s) ≡ readDigits 2 (get_or s (at + 1) 0 ∷ get_or s (at + 2) 0 ∷ [])
@@ -125,7 +125,7 @@ module _ (s : List ℕ) (at mark : ℕ) where
       let a : suc (at + 1) ≡ at + 2 = omega arith in
       let b : drop (at + 1) s ≡ get_or s (at + 1) 0 ∷ drop (suc (at + 1)) s = drop-cons s (at + 1) 0 (omega arith) in
       let c : drop (at + 2) s ≡ get_or s (at + 2) 0 ∷ drop (suc (at + 2)) s = drop-cons s (at + 2) 0 (omega arith) in
-      rw (at_mark, eq-eqb (get_or s at 0) mark e, drop-drop 1 at s, b, a, c) (two-alike (get_or s (at + 1) 0) (get_or s (at + 2) 0) _ [])
+      rw (at-mark, eq-eqb (get_or s at 0) mark e, drop-drop 1 at s, b, a, c) (two-alike (get_or s (at + 1) 0) (get_or s (at + 2) 0) _ [])
 
 -- ---- what a loop over the digits of r has read: the first n of them, which make v
 
@@ -143,9 +143,9 @@ pub record Read (r : List ℕ) (n v : ℕ) : Type 0 where
   pub run : digitRun r ≡ n + digitRun (drop n r)
   pub value : v ≡ digitsValue (min n 18) r
 
-pub read_none : (r : List ℕ) → Read r 0 0
+pub read-none : (r : List ℕ) → Read r 0 0
 unfolding digitsValue valueFrom
-read_none r = record { inside = omega arith; run = omega arith; value = refl }
+read-none r = record { inside = omega arith; run = omega arith; value = refl }
 
 module _ {r : List ℕ} {n v : ℕ} (p : Read r n v) where
   read-run : n < length r → (t : Bool) → isDigit (get_or r n 0) ≡ t → digitRun (drop n r) ≡ cond t (suc (digitRun (drop (n + 1) r))) 0
@@ -165,8 +165,8 @@ module _ {r : List ℕ} {n v : ℕ} (p : Read r n v) where
   unfolding digitRun
   read-end h = ended (rw (drop_of_length-le r h))
 
-  pub read_more : n < length r → isDigit (get_or r n 0) ≡ true → Read r (n + 1) (cond (ltb n 18) (v * 10 + digitOf (get_or r n 0)) v)
-  read_more h e = go (dec_lt n 18)
+  pub read-more : n < length r → isDigit (get_or r n 0) ≡ true → Read r (n + 1) (cond (ltb n 18) (v * 10 + digitOf (get_or r n 0)) v)
+  read-more h e = go (dec_lt n 18)
     where
       next : digitRun r ≡ n + 1 + digitRun (drop (n + 1) r)
       next = omega (arith, p.run, read-run h true e)

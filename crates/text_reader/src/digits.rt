@@ -53,7 +53,7 @@ pub(crate) fn read_year(s: &[u8]) -> DigitsRead
 }
 
 // How many digits there are, and the number that the first 18 of them make.
-#[derive(Drop)]
+#[derive(Clone, Copy)]
 pub(crate) struct DigitRun {
     pub(crate) count: usize,
     pub(crate) value: u64,

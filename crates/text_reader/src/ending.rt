@@ -10,7 +10,7 @@ use ion::OffsetRead;
 use ion::offset::Offset;
 
 // A fraction, or none, and the index after it; or that there is a point without digits.
-#[derive(Drop)]
+#[derive(Clone, Copy)]
 pub(crate) struct FractionRead {
     found: bool,
     attoseconds: u64,
@@ -19,7 +19,7 @@ pub(crate) struct FractionRead {
 }
 
 // How a form ends, or that none ends so.
-#[derive(Drop)]
+#[derive(Clone, Copy)]
 pub(crate) struct EndingRead {
     pub(crate) found: bool,
     pub(crate) attoseconds: u64,

@@ -6,7 +6,7 @@ use crate::digits::{read_marked, read_year};
 use ion::{DigitsRead, TimestampPrecision};
 
 // How many fields there are, the precision that they make, and these; those that are not there have their first values.
-#[derive(Drop)]
+#[derive(Clone, Copy)]
 pub(crate) struct FieldsRead {
     pub(crate) count: usize,
     pub(crate) precision: TimestampPrecision,

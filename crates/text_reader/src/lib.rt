@@ -1,4 +1,6 @@
 // Timestamps read from text.
+#![tactic(auto)]
+
 mod digits;
 mod ending;
 mod fields;

@@ -9,7 +9,7 @@ use lib.IntN.{neg_ℤ}
 use borrow.Author.Tests.{le-leb, lt-leb}
 use Rattle.ion.specs.Calendar.Dates.{isLeap, daysInMonth, IsDate}
 use Rattle.ion.specs.Calendar.Shift.{IsDateTime}
-use Rattle.ion.specs.Pair.Offset.{offset_of}
+use Rattle.ion.specs.Pair.Offset.{offsetOf}
 use Rattle.ion.specs.Calls.Accepted.{timeIn}
 use Rattle.ion.specs.Calls.Utc.{utcBy, utcFields}
 use Rattle.ion.specs.Value.Decode.{localBy}
@@ -61,7 +61,7 @@ local-time (Known m) u p = shifted-is (timeIn u) m.0 p
 
 utc-form-time : (f : Fields) → IsDateTime (timeIn f) → IsDateTime (timeIn (utcFields f))
 unfolding utcFields
-utc-form-time f p = utc-time (offset_of f.offset) f p
+utc-form-time f p = utc-time (offsetOf f.offset) f p
 
 pub days-wanted : DaysWanted
 days-wanted =
@@ -74,6 +74,6 @@ days-wanted =
       minutes-added = shifted-is;
       built = λ f m b e. shifted-is _ m.0 (time-is f b e);
       utc-form = utc-form-time;
-      value_read = local-time;
+      value-read = local-time;
       year-zero = year-zero-refused;
     }

@@ -8,15 +8,15 @@ use native.Mathlib.Nat.{div-add-mod', mod-lt}
 use lib.Dec.{lit<}
 use lib.IntN.{pos, nat_abs, ◌-ℤ◌}
 use borrow.Author.Tests.{eq-eqb, eqb-true}
-use Rattle.ion.specs.Pair.Pair.{word_in}
+use Rattle.ion.specs.Pair.Pair.{wordIn}
 use Rattle.ion.specs.Calls.Build.{acceptedBuild, buildOf}
 use Rattle.ion.specs.Calls.Stages.{Stage, Gives}
 use Rattle.ion.specs.Calls.Check.{checkOf}
 use Rattle.ion.specs.Calls.Accepted.{Accepted}
-use Rattle.ion.specs.Pair.Count.{count_of}
-use Rattle.ion.specs.Calls.Order.{order_of, sizeOfDifference, cmpOf, eqOf, distance_of}
-use Rattle.ion.specs.Text.Format.{text_of}
-use Rattle.ion.specs.Value.Encode.{value_of}
+use Rattle.ion.specs.Pair.Count.{countOf}
+use Rattle.ion.specs.Calls.Order.{orderOf, sizeOfDifference, cmpOf, eqOf, distanceOf}
+use Rattle.ion.specs.Text.Format.{textOf}
+use Rattle.ion.specs.Value.Encode.{valueOf}
 use Rattle.ion.specs.Value.ReadValue.{readValue}
 use Rattle.ion.specs.declared.BuilderFields.{BuilderFields}
 use Rattle.ion.specs.declared.Timestamp.{Timestamp}
@@ -46,14 +46,14 @@ module _ {x : Built} (s : Timestamp) (e : x ≡ acceptedBuild s) where
 
 module _ (s : Timestamp) (p : Accepted s) (r : List ℕ) where
   -- what is read of the value with any bytes after it
-  value-stamp : (readValue (value_of s ++ r)).stamp ≡ s
+  value-stamp : (readValue (valueOf s ++ r)).stamp ≡ s
   value-stamp = ap (λ (x : Read). x.stamp) (values.value-back s p r)
 
-  value-number : (readValue (value_of s ++ r)).number ≡ 0
+  value-number : (readValue (valueOf s ++ r)).number ≡ 0
   value-number = ap (λ (x : Read). x.number) (values.value-back s p r)
 
 same-answers : {x y a b : Timestamp} → x ≡ a → y ≡ b → SameAnswers x y a b
-same-answers e f = (ap₂ distance_of e f, ap₂ cmpOf e f, ap₂ eqOf e f)
+same-answers e f = (ap₂ distanceOf e f, ap₂ cmpOf e f, ap₂ eqOf e f)
 
 -- what is read of scans with any bytes after them
 scan-read : {x : Scan} → Stored x → (r : List ℕ)
@@ -74,41 +74,41 @@ module _ {x y : Scan} (h : Stored x) (k : Stored y) where
 from-texts : (s : Timestamp) → Accepted s → ReadFromTexts s
 from-texts s p x = (text-exact s x, texts-read s x p)
 
-not_same : (s t : Timestamp) → Differ s t → s ≡ t → ⊥
-not_same s t d e = ⊎_elim (λ n. n (ap word_in e)) (λ n. n (ap (λ (x : Timestamp). x.attoseconds) e)) d
+not-same : (s t : Timestamp) → Differ s t → s ≡ t → ⊥
+not-same s t d e = ⊎_elim (λ n. n (ap wordIn e)) (λ n. n (ap (λ (x : Timestamp). x.attoseconds) e)) d
 
 -- bytes u and v that are the same, with any bytes after them, only where s and t are
 module _ {s t : Timestamp} (d : Differ s t) {u v : List ℕ} (apart : (q r : List ℕ) → u ++ q ≡ v ++ r → s ≡ t) where
   bytes-differ : u ≡ v → ⊥
-  bytes-differ e = not_same s t d (apart [] [] (ap (λ (l : List ℕ). l ++ []) e))
+  bytes-differ e = not-same s t d (apart [] [] (ap (λ (l : List ℕ). l ++ []) e))
 
   neither-begins : (r : List ℕ) → (u ++ r ≡ v → ⊥) × (v ++ r ≡ u → ⊥)
   neither-begins r = (
-    (λ e. not_same s t d (apart r [] (e ∙ sym (append-nil v)))),
-    (λ e. not_same s t d (apart [] r (append-nil u ∙ sym e))),
+    (λ e. not-same s t d (apart r [] (e ∙ sym (append-nil v)))),
+    (λ e. not-same s t d (apart [] r (append-nil u ∙ sym e))),
   )
 
 module _ (a b : Timestamp) (p : Accepted a) (q : Accepted b) where
   abbrev size : ℕ
-  size = sizeOfDifference (count_of a) (count_of b)
+  size = sizeOfDifference (countOf a) (countOf b)
 
   -- the signed difference of the counts
-  difference : pos (count_of a) -ℤ pos (count_of b) ≡ utcCount a -ℤ utcCount b
+  difference : pos (countOf a) -ℤ pos (countOf b) ≡ utcCount a -ℤ utcCount b
   difference = ap₂ ◌-ℤ◌ (count-exact a p) (count-exact b q)
 
-  sign-exact : SignOf (order_of (count_of a) (count_of b)) (utcCount a -ℤ utcCount b)
-  sign-exact = rw (← difference) (order-sign (count_of a) (count_of b))
+  sign-exact : SignOf (orderOf (countOf a) (countOf b)) (utcCount a -ℤ utcCount b)
+  sign-exact = rw (← difference) (order-sign (countOf a) (countOf b))
 
-  same_count : utcCount a ≡ utcCount b → count_of a ≡ count_of b
-  same_count e =
-      let x : pos (count_of a) ≡ pos (count_of b) = count-exact a p ∙ e ∙ sym (count-exact b q) in
+  same-count : utcCount a ≡ utcCount b → countOf a ≡ countOf b
+  same-count e =
+      let x : pos (countOf a) ≡ pos (countOf b) = count-exact a p ∙ e ∙ sym (count-exact b q) in
       cc
 
   eq-exact : ((eqOf a b).equal ≡ true → utcCount a ≡ utcCount b) × (utcCount a ≡ utcCount b → (eqOf a b).equal ≡ true)
   eq-exact =
       rw (eq-counts a b p q) (
-        (λ e. sym (count-exact a p) ∙ ap pos (eqb-true (count_of a) (count_of b) e) ∙ count-exact b q),
-        (λ e. eq-eqb (count_of a) (count_of b) (same_count e)),
+        (λ e. sym (count-exact a p) ∙ ap pos (eqb-true (countOf a) (countOf b) e) ∙ count-exact b q),
+        (λ e. eq-eqb (countOf a) (countOf b) (same-count e)),
       )
 
   together : TwoStamps a b
@@ -140,11 +140,11 @@ module _ (a b : Timestamp) (p : Accepted a) (q : Accepted b) where
           same-answers (built-stamp a (text-back a p)) (built-stamp b (text-back b q)),
         );
         same-by-scan = λ t g h k u v i j. scans-read (stored a p t g h k) (stored b q u v i j);
-        texts-written = (writes (check-zero a p) (text_of a), writes (check-zero b q) (text_of b));
-        values-written = (writes (check-zero a p) (value_of a), writes (check-zero b q) (value_of b));
+        texts-written = (writes (check-zero a p) (textOf a), writes (check-zero b q) (textOf b));
+        values-written = (writes (check-zero a p) (valueOf a), writes (check-zero b q) (valueOf b));
         scans-written = ((λ t g h k. scan-writes (stored a p t g h k)), (λ t g h k. scan-writes (stored b q t g h k)));
-        texts-differ = λ d e. not_same a b d (text-inj a b p q e);
-        texts-apart = λ d s h k. not_same a b d (texts-inj a b s p q h k);
+        texts-differ = λ d e. not-same a b d (text-inj a b p q e);
+        texts-apart = λ d s h k. not-same a b d (texts-inj a b s p q h k);
         values-differ = λ d. bytes-differ d (value-apart a b p q);
         no-beginning = λ d. neither-begins d (value-apart a b p q);
         scans-differ = λ d t g h k u v i j. bytes-differ d (scan-stamps (stored a p t g h k) (stored b q u v i j));

@@ -4,17 +4,17 @@ use mathlib.Core.Path.{◌≡◌, sym, ap, ◌∙◌}
 use Prim.Native.Nat.{ℕ, ◌+◌, ◌-◌, ◌*◌, ◌^◌}
 use native.Mathlib.Omega.{arith}
 use lib.IntN.{ℤ, pos, negsuc, ◌-ℤ◌, ◌*ℤ◌}
-use Rattle.integers.proofs.Parts.{up, down, sub_parts, mul-parts, parts-eq}
-use Rattle.ion.specs.Pair.Pair.{word_in}
-use Rattle.ion.specs.Pair.Word.{fields_of}
-use Rattle.ion.specs.Pair.Count.{attosecondsIn, offsetIn, count_of}
+use Rattle.integers.proofs.Parts.{up, down, sub-parts, mul-parts, parts-eq}
+use Rattle.ion.specs.Pair.Pair.{wordIn}
+use Rattle.ion.specs.Pair.Word.{fieldsOf}
+use Rattle.ion.specs.Pair.Count.{attosecondsIn, offsetIn, countOf}
 use Rattle.ion.specs.Calendar.Shift.{minuteNumber}
 use Rattle.ion.specs.Calls.Accepted.{timeIn, Valid, Accepted}
-use Rattle.ion.specs.Calls.Order.{order_of}
+use Rattle.ion.specs.Calls.Order.{orderOf}
 use Rattle.ion.specs.declared.Fields.{Fields}
 use Rattle.ion.specs.declared.Timestamp.{Timestamp}
 use Rattle.timestamp.proofs.CheckedFields.{given-same}
-use Rattle.order.proofs.Orders.{by_order}
+use Rattle.order.proofs.Orders.{by-order}
 use Rattle.order.proofs.Clocks.{valid-local, utc-parts}
 use Rattle.theorem.specs.TwoStamps.{withFirstValues, utcCountIn, utcCount, SignOf, below, none, above}
 
@@ -25,7 +25,7 @@ has-first-values {f} v =
     let day = given-same 2 p f.day 1 v.no-day in
     let hour = given-same 3 p f.hour 0 v.no-hour in
     let minute = given-same 3 p f.minute 0 v.no-minute in
-    let second = given-same 4 p f.second 0 v.no_second in
+    let second = given-same 4 p f.second 0 v.no-second in
     λ i.
     record {
       year = f.year;
@@ -44,26 +44,26 @@ scaled : (m n u v s a : ℕ) → m + u ≡ n + v → attosecondsIn m s a + u * (
 scaled m n u v s a e = omega arith
 
 -- the local count less the offset's attoseconds
-count-is : (s : Timestamp) → Accepted s → pos (count_of s) ≡ utcCountIn (fields_of (word_in s)) s.attoseconds
-unfolding count_of
+count-is : (s : Timestamp) → Accepted s → pos (countOf s) ≡ utcCountIn (fieldsOf (wordIn s)) s.attoseconds
+unfolding countOf
 count-is s p =
-    let f = fields_of (word_in s) in
+    let f = fieldsOf (wordIn s) in
     let o = offsetIn f in
     let l = attosecondsIn (minuteNumber (timeIn f)) f.second s.attoseconds in
     let z = o *ℤ pos (60 * 10 ^ 18) in
     let e = scaled _ _ (up o) (down o) f.second s.attoseconds (utc-parts f (valid-local p.fields)) in
-    parts-eq (pos (count_of s)) (pos l -ℤ z) (omega (arith, sub_parts (pos l) z, mul-parts o (60 * 10 ^ 18), e))
+    parts-eq (pos (countOf s)) (pos l -ℤ z) (omega (arith, sub-parts (pos l) z, mul-parts o (60 * 10 ^ 18), e))
 
-pub count-exact : (s : Timestamp) → Accepted s → pos (count_of s) ≡ utcCount s
+pub count-exact : (s : Timestamp) → Accepted s → pos (countOf s) ≡ utcCount s
 count-exact s p = count-is s p ∙ ap (λ (f : Fields). utcCountIn f s.attoseconds) (has-first-values p.fields)
 
 -- the order of two counts is the sign of their difference
-pub order-sign : (m n : ℕ) → SignOf (order_of m n) (pos m -ℤ pos n)
+pub order-sign : (m n : ℕ) → SignOf (orderOf m n) (pos m -ℤ pos n)
 order-sign m n =
-    by_order m n (λ z. SignOf z (pos m -ℤ pos n))
+    by-order m n (λ z. SignOf z (pos m -ℤ pos n))
     (λ h. rw (is (negsuc (n - m - 1)) (omega arith)) (below (n - m - 1)))
     (λ h. rw (is (pos 0) (omega arith)) none)
     (λ h. rw (is (pos (m - n)) (omega arith)) (above (m - n) (omega arith)))
   where
     is : (z : ℤ) → up z + n ≡ m + down z → pos m -ℤ pos n ≡ z
-    is z e = parts-eq (pos m -ℤ pos n) z (omega (arith, e, sub_parts (pos m) (pos n)))
+    is z e = parts-eq (pos m -ℤ pos n) z (omega (arith, e, sub-parts (pos m) (pos n)))

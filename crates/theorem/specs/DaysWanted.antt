@@ -40,7 +40,7 @@ pub record DaysWanted : Type 0 where
   -- so are the local time of a field set in UTC, before check 11 looks at its year, the UTC form, and the local fields of a value
   pub built : (f : BuilderFields) (m : OffsetMinutes) → InBounds f → isDay f ≡ true → IsDateTime (movedTime f m)
   pub utc-form : (f : Fields) → IsDateTime (timeIn f) → IsDateTime (timeIn (utcFields f))
-  pub value_read : (o : Offset) (u : Fields) → IsDateTime (timeIn u) → IsDateTime (timeIn (localBy o u))
+  pub value-read : (o : Offset) (u : Fields) → IsDateTime (timeIn u) → IsDateTime (timeIn (localBy o u))
   -- UTC year 0 and an offset of n minutes back, past 1 January or not: where the checks 1 to 10 pass, 11
   pub year-zero : (f : BuilderFields) (n : ℕ) → InBounds f → isDay f ≡ true → f.year ≡ 0
       → f.offset ≡ FromUtcFields (offsetMinutes (neg_ℤ (pos n))) → buildOf f ≡ refusedBuild localYearRefused

@@ -1,17 +1,17 @@
 -- What demand 3 says of any two accepted timestamps, sentence by sentence, of the definitions that the contracts cite. Assumes nothing.
 use Rattle.std.specs.Prelude.{◌≡◌, ◌⊎◌, true, List, ◌++◌, ℕ, ◌+◌, ◌*◌, ◌^◌, ◌≤◌, ◌<◌, ℤ, pos, negsuc, nat_abs, ◌-ℤ◌, ◌*ℤ◌, length, take, drop}
-use Rattle.ion.specs.Pair.Pair.{word_in}
-use Rattle.ion.specs.Pair.Word.{fields_of}
+use Rattle.ion.specs.Pair.Pair.{wordIn}
+use Rattle.ion.specs.Pair.Word.{fieldsOf}
 use Rattle.ion.specs.Calls.Output.{over, putAfter, wroteAfter}
 use Rattle.ion.specs.Calendar.Shift.{minuteNumber}
 use Rattle.ion.specs.Calls.Build.{acceptedBuild}
 use Rattle.ion.specs.Calls.Check.{givenAt, checkOf, checkNumber}
 use Rattle.ion.specs.Calls.Accepted.{timeIn}
-use Rattle.ion.specs.Pair.Count.{attosecondsIn, offsetIn, count_of}
-use Rattle.ion.specs.Calls.Order.{cmpOf, eqOf, distance_of}
-use Rattle.ion.specs.Text.Format.{text_of}
+use Rattle.ion.specs.Pair.Count.{attosecondsIn, offsetIn, countOf}
+use Rattle.ion.specs.Calls.Order.{cmpOf, eqOf, distanceOf}
+use Rattle.ion.specs.Text.Format.{textOf}
 use Rattle.ion.specs.Text.ReadText.{readTextOf}
-use Rattle.ion.specs.Value.Encode.{value_of}
+use Rattle.ion.specs.Value.Encode.{valueOf}
 use Rattle.ion.specs.Value.ReadValue.{acceptedReading, readValue}
 use Rattle.ion.specs.declared.Timestamp.{Timestamp}
 use Rattle.ion.specs.declared.Fields.{Fields}
@@ -40,7 +40,7 @@ abbrev pub utcCountIn : Fields → ℕ → ℤ
 utcCountIn f a = pos (attosecondsIn (minuteNumber (timeIn f)) f.second a) -ℤ offsetIn f *ℤ pos (60 * 10 ^ 18)
 
 abbrev pub utcCount : Timestamp → ℤ
-utcCount s = utcCountIn (withFirstValues (fields_of (word_in s))) s.attoseconds
+utcCount s = utcCountIn (withFirstValues (fieldsOf (wordIn s))) s.attoseconds
 
 -- an order -1, 0 or 1, and the sign of a signed number
 pub data SignOf : ℤ → ℤ → Type 0 where
@@ -50,7 +50,7 @@ pub data SignOf : ℤ → ℤ → Type 0 where
 
 -- the words or the attoseconds are not the same
 abbrev pub Differ : Timestamp → Timestamp → Type 0
-Differ a b = (word_in a ≡ word_in b → ⊥) ⊎ (a.attoseconds ≡ b.attoseconds → ⊥)
+Differ a b = (wordIn a ≡ wordIn b → ⊥) ⊎ (a.attoseconds ≡ b.attoseconds → ⊥)
 
 -- what a writer of the bytes b, whose check gave the number k, does in any buffer with room for them: it answers 0 and their number,
 -- and writes them
@@ -69,11 +69,11 @@ AsWritten k b P =
 
 -- what the value writer wrote is read back with any bytes or none after it: the pair, and as many taken as were written
 abbrev pub ReadsBack : Timestamp → Type 0
-ReadsBack s = AsWritten (checkNumber s) (value_of s) (λ v n. (r : List ℕ) → readValue (v ++ r) ≡ acceptedReading s n)
+ReadsBack s = AsWritten (checkNumber s) (valueOf s) (λ v n. (r : List ℕ) → readValue (v ++ r) ≡ acceptedReading s n)
 
 -- what the text writer wrote, and nothing after it, is read back: the pair
 abbrev pub TextReadsBack : Timestamp → Type 0
-TextReadsBack s = AsWritten (checkNumber s) (text_of s) (λ x n. readTextOf x ≡ acceptedBuild s)
+TextReadsBack s = AsWritten (checkNumber s) (textOf s) (λ x n. readTextOf x ≡ acceptedBuild s)
 
 -- what the scan writer wrote is read back with any bytes or none after it: the scan, and as many taken as were written
 abbrev pub ScanReadsBack : Scan → Type 0
@@ -93,15 +93,15 @@ ReadFromTexts s = (x : List ℕ) → (readTextOf x ≡ acceptedBuild s → TextF
 
 -- x and y give the answers of a and b
 abbrev pub SameAnswers : Timestamp → Timestamp → Timestamp → Timestamp → Type 0
-SameAnswers x y a b = (distance_of x y ≡ distance_of a b) × (cmpOf x y ≡ cmpOf a b) × (eqOf x y ≡ eqOf a b)
+SameAnswers x y a b = (distanceOf x y ≡ distanceOf a b) × (cmpOf x y ≡ cmpOf a b) × (eqOf x y ≡ eqOf a b)
 
 pub record TwoStamps (a b : Timestamp) : Type 0 where
   -- distance, `cmp` and `==` follow the UTC attosecond counts exactly
-  pub count-exact : (pos (count_of a) ≡ utcCount a) × (pos (count_of b) ≡ utcCount b)
-  pub distance-accepted : (distance_of a b).number ≡ 0
-  pub distance-exact : (distance_of a b).seconds * 10 ^ 18 + (distance_of a b).attoseconds ≡ nat_abs (utcCount a -ℤ utcCount b)
-  pub distance-parts : (distance_of a b).attoseconds < 10 ^ 18
-  pub distance-sign : SignOf (distance_of a b).sign (utcCount a -ℤ utcCount b)
+  pub count-exact : (pos (countOf a) ≡ utcCount a) × (pos (countOf b) ≡ utcCount b)
+  pub distance-accepted : (distanceOf a b).number ≡ 0
+  pub distance-exact : (distanceOf a b).seconds * 10 ^ 18 + (distanceOf a b).attoseconds ≡ nat_abs (utcCount a -ℤ utcCount b)
+  pub distance-parts : (distanceOf a b).attoseconds < 10 ^ 18
+  pub distance-sign : SignOf (distanceOf a b).sign (utcCount a -ℤ utcCount b)
   pub cmp-accepted : (cmpOf a b).number ≡ 0
   pub cmp-exact : SignOf (cmpOf a b).order (utcCount a -ℤ utcCount b)
   pub eq-accepted : (eqOf a b).number ≡ 0
@@ -117,23 +117,23 @@ pub record TwoStamps (a b : Timestamp) : Type 0 where
   pub scan-back : EachScan a ScanReadsBack × EachScan b ScanReadsBack
   -- and then the same answers
   pub same-by-pair : SameAnswers (checkOf a).stamp (checkOf b).stamp a b
-  pub same-by-value : (d e : List ℕ) → ((readValue (value_of a ++ d)).number ≡ 0) × ((readValue (value_of b ++ e)).number ≡ 0)
-      × SameAnswers (readValue (value_of a ++ d)).stamp (readValue (value_of b ++ e)).stamp a b
-  pub same-by-text : ((readTextOf (text_of a)).number ≡ 0) × ((readTextOf (text_of b)).number ≡ 0)
-      × SameAnswers (readTextOf (text_of a)).stamp (readTextOf (text_of b)).stamp a b
+  pub same-by-value : (d e : List ℕ) → ((readValue (valueOf a ++ d)).number ≡ 0) × ((readValue (valueOf b ++ e)).number ≡ 0)
+      × SameAnswers (readValue (valueOf a ++ d)).stamp (readValue (valueOf b ++ e)).stamp a b
+  pub same-by-text : ((readTextOf (textOf a)).number ≡ 0) × ((readTextOf (textOf b)).number ≡ 0)
+      × SameAnswers (readTextOf (textOf a)).stamp (readTextOf (textOf b)).stamp a b
   pub same-by-scan : EachTwo a b (λ x y. (d e : List ℕ)
       → ((readScan (scanBytes x ++ d)).number ≡ 0) × ((readScan (scanBytes y ++ e)).number ≡ 0)
       × SameAnswers (readScan (scanBytes x ++ d)).scan.stamp (readScan (scanBytes y ++ e)).scan.stamp a b)
   -- text, value and scan are what the writers, given room for them, write
-  pub texts-written : Writes (checkNumber a) (text_of a) × Writes (checkNumber b) (text_of b)
-  pub values-written : Writes (checkNumber a) (value_of a) × Writes (checkNumber b) (value_of b)
+  pub texts-written : Writes (checkNumber a) (textOf a) × Writes (checkNumber b) (textOf b)
+  pub values-written : Writes (checkNumber a) (valueOf a) × Writes (checkNumber b) (valueOf b)
   pub scans-written : EachScan a (λ x. Writes (scanNumber x) (scanBytes x)) × EachScan b (λ x. Writes (scanNumber x) (scanBytes x))
   -- different timestamps have different texts, values and scans, no text that is read as the one is read as the other, and no value or
   -- scan of the one is the beginning of the other's
-  pub texts-differ : Differ a b → text_of a ≡ text_of b → ⊥
+  pub texts-differ : Differ a b → textOf a ≡ textOf b → ⊥
   pub texts-apart : Differ a b → (s : List ℕ) → TextFor a s → TextFor b s → ⊥
-  pub values-differ : Differ a b → value_of a ≡ value_of b → ⊥
-  pub no-beginning : Differ a b → (r : List ℕ) → (value_of a ++ r ≡ value_of b → ⊥) × (value_of b ++ r ≡ value_of a → ⊥)
+  pub values-differ : Differ a b → valueOf a ≡ valueOf b → ⊥
+  pub no-beginning : Differ a b → (r : List ℕ) → (valueOf a ++ r ≡ valueOf b → ⊥) × (valueOf b ++ r ≡ valueOf a → ⊥)
   pub scans-differ : Differ a b → EachTwo a b (λ x y. scanBytes x ≡ scanBytes y → ⊥)
   pub no-scan-beginning : Differ a b → EachTwo a b (λ x y. (r : List ℕ)
       → (scanBytes x ++ r ≡ scanBytes y → ⊥) × (scanBytes y ++ r ≡ scanBytes x → ⊥))

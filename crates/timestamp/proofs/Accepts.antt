@@ -6,8 +6,8 @@ use native.Mathlib.Decide.{dec_le, ℕ_discrete}
 use native.Mathlib.Omega.{arith}
 use borrow.Author.Tests.{eq-eqb, ne_eqb}
 use Rattle.ion.specs.Calls.Refusal.{digitsRefused, pairRefused}
-use Rattle.ion.specs.Pair.Word.{fields_of}
-use Rattle.ion.specs.Pair.Pair.{word_in, packedPair, same_pair}
+use Rattle.ion.specs.Pair.Word.{fieldsOf}
+use Rattle.ion.specs.Pair.Pair.{wordIn, packedPair, samePair}
 use Rattle.ion.specs.Calls.Build.{refusedBuild, acceptedBuild, buildAnswer, buildNumber, buildPair, buildOf}
 use Rattle.ion.specs.Calls.Check.{rebuilt, sameAs, checkOf}
 use Rattle.ion.specs.Calls.Accepted.{Staged, Accepted}
@@ -27,39 +27,39 @@ check-accepts s t =
     let a = s.attoseconds in
     check-built s v.digits
     ∙ ap (sameAs s) (rebuilt-builds v ∙ ap (λ (w : ℕ). acceptedBuild (packedPair w a)) (accepted-word t))
-    ∙ simp (eq-eqb (word_in s) (word_in s) refl, eq-eqb a a refl)
+    ∙ simp (eq-eqb (wordIn s) (wordIn s) refl, eq-eqb a a refl)
 
 pub check-zero : (s : Timestamp) → Accepted s → (checkOf s).number ≡ 0
 check-zero s t = ap (λ (b : Built). b.number) (check-accepts s t)
 
 -- what is built is compared with the pair
 same : (s : Timestamp) (n : ℕ) (t : Timestamp) → (sameAs s (buildAnswer n t)).number ≡ 0 → (n ≡ 0) × (t ≡ s)
-same s n t h = at (ℕ_discrete n 0) (ℕ_discrete (word_in t) (word_in s)) (ℕ_discrete t.attoseconds s.attoseconds)
+same s n t h = at (ℕ_discrete n 0) (ℕ_discrete (wordIn t) (wordIn s)) (ℕ_discrete t.attoseconds s.attoseconds)
   where
-    at : Dec (n ≡ 0) → Dec (word_in t ≡ word_in s) → Dec (t.attoseconds ≡ s.attoseconds) → (n ≡ 0) × (t ≡ s)
+    at : Dec (n ≡ 0) → Dec (wordIn t ≡ wordIn s) → Dec (t.attoseconds ≡ s.attoseconds) → (n ≡ 0) × (t ≡ s)
     at (no k) w a = absurd (k (simp (ne_eqb n 0 k) at h))
-    at (yes k) (no w) a = let z : pairRefused ≡ 0 = simp (k, ne_eqb (word_in t) (word_in s) w) at h in absurd (omega arith)
+    at (yes k) (no w) a = let z : pairRefused ≡ 0 = simp (k, ne_eqb (wordIn t) (wordIn s) w) at h in absurd (omega arith)
     at (yes k) (yes w) (no a) =
-        let z : pairRefused ≡ 0 = simp (k, eq-eqb (word_in t) (word_in s) w, ne_eqb t.attoseconds s.attoseconds a) at h in
+        let z : pairRefused ≡ 0 = simp (k, eq-eqb (wordIn t) (wordIn s) w, ne_eqb t.attoseconds s.attoseconds a) at h in
         absurd (omega arith)
     at (yes k) (yes w) (yes a) = (k, λ i. packedPair (w i) (a i))
 
 -- where it answers 0 the timestamp is an accepted one
 pub check-gives : (s : Timestamp) → (checkOf s).number ≡ 0 → Accepted s
 unfolding buildOf
-check-gives s e = go (dec_le (fields_of (word_in s)).digits 18)
+check-gives s e = go (dec_le (fieldsOf (wordIn s)).digits 18)
   where
     b : BuilderFields
-    b = rebuilt (fields_of (word_in s)) s.attoseconds
+    b = rebuilt (fieldsOf (wordIn s)) s.attoseconds
 
-    go : Dec ((fields_of (word_in s)).digits ≤ 18) → Accepted s
+    go : Dec ((fieldsOf (wordIn s)).digits ≤ 18) → Accepted s
     go (no n) =
-        let h : 18 < (fields_of (word_in s)).digits = omega arith in
+        let h : 18 < (fieldsOf (wordIn s)).digits = omega arith in
         let z : digitsRefused ≡ 0 = sym (ap (λ (r : Built). r.number) (check-digits s h)) ∙ e in
         absurd (omega arith)
     go (yes h) =
         let k = same s (buildNumber b) (buildPair b) (sym (ap (λ (r : Built). r.number) (check-built s h)) ∙ e) in
-        subst Accepted k.1 (build-accepted b (rebuilt-staged (fields_of (word_in s)) s.attoseconds) k.0)
+        subst Accepted k.1 (build-accepted b (rebuilt-staged (fieldsOf (wordIn s)) s.attoseconds) k.0)
 
 -- and the pair is given back
 pub check-same : (s : Timestamp) → (checkOf s).number ≡ 0 → checkOf s ≡ acceptedBuild s
@@ -77,18 +77,18 @@ same-alone : (s : Timestamp) (n : ℕ) (t : Timestamp) → Alone (sameAs s (buil
 same-alone s n t = go (ℕ_discrete n 0)
   where
     go : Dec (n ≡ 0) → Alone (sameAs s (buildAnswer n t))
-    go (yes e) = simp (eq-eqb n 0 e) (compared t (same_pair t s))
+    go (yes e) = simp (eq-eqb n 0 e) (compared t (samePair t s))
     go (no k) = simp (ne_eqb n 0 k) (λ h. refl)
 
 pub check-refuses : (s : Timestamp) → ((checkOf s).number ≡ 0 → ⊥) → checkOf s ≡ refusedBuild (checkOf s).number
 unfolding buildOf
-check-refuses s = go (dec_le (fields_of (word_in s)).digits 18)
+check-refuses s = go (dec_le (fieldsOf (wordIn s)).digits 18)
   where
     b : BuilderFields
-    b = rebuilt (fields_of (word_in s)) s.attoseconds
+    b = rebuilt (fieldsOf (wordIn s)) s.attoseconds
 
-    go : Dec ((fields_of (word_in s)).digits ≤ 18) → Alone (checkOf s)
-    go (no n) = let h : 18 < (fields_of (word_in s)).digits = omega arith in subst Alone (sym (check-digits s h)) (λ z. refl)
+    go : Dec ((fieldsOf (wordIn s)).digits ≤ 18) → Alone (checkOf s)
+    go (no n) = let h : 18 < (fieldsOf (wordIn s)).digits = omega arith in subst Alone (sym (check-digits s h)) (λ z. refl)
     go (yes h) = subst Alone (sym (check-built s h)) (same-alone s (buildNumber b) (buildPair b))
 
 -- to every pair that the builder gives of staged fields the check answers 0 and that pair

@@ -7,12 +7,12 @@ use native.Mathlib.Nat.{mod-eq_of_lt}
 use native.Mathlib.Decide.{dec_le, dec_lt}
 use native.Mathlib.Omega.{arith}
 use borrow.Author.Tests.{lt-ltb, le-leb, lt-leb, ne_eqb}
-use Rattle.ion.specs.Pair.Offset.{WithinDay, rawOf, offset_of}
-use Rattle.ion.specs.Pair.Word.{word_of}
+use Rattle.ion.specs.Pair.Offset.{WithinDay, rawOf, offsetOf}
+use Rattle.ion.specs.Pair.Word.{wordOf}
 use Rattle.ion.specs.Pair.Pair.{packedPair}
 use Rattle.ion.specs.Pair.Fraction.{scale}
-use Rattle.ion.specs.Calls.Build.{precisionNumber, first_of, rangeChecks, isYear, isDay, toOffset, routeChecks, localChecks, givenTime}
-use Rattle.ion.specs.Calls.Build.{localTime, pair_at, acceptedBuild, buildAnswer, buildNumber, buildPair, buildOf}
+use Rattle.ion.specs.Calls.Build.{precisionNumber, firstOf, rangeChecks, isYear, isDay, toOffset, routeChecks, localChecks, givenTime}
+use Rattle.ion.specs.Calls.Build.{localTime, pairAt, acceptedBuild, buildAnswer, buildNumber, buildPair, buildOf}
 use Rattle.ion.specs.Calls.Check.{precisionOf, fromLocal, offsetAt, givenAt, fractionAt, rebuilt}
 use Rattle.ion.specs.Calls.Accepted.{InBounds, Staged, Valid, dateIn}
 use Rattle.ion.specs.declared.Fields.{Fields}
@@ -75,10 +75,10 @@ given-same from p x first h = go (dec_le from p)
     go (yes k) = simp (le-leb from p k)
     go (no n) = let k : p < from = omega arith in simp (lt-leb from p k) (sym (h k))
 
-offset-same : (p : ℕ) (r : RawOffset) → (p < 3 → r.0 ≡ 0) → offsetAt p r ≡ fromLocal (offset_of r)
+offset-same : (p : ℕ) (r : RawOffset) → (p < 3 → r.0 ≡ 0) → offsetAt p r ≡ fromLocal (offsetOf r)
 offset-same p r h = go (dec_le 3 p)
   where
-    go : Dec (3 ≤ p) → offsetAt p r ≡ fromLocal (offset_of r)
+    go : Dec (3 ≤ p) → offsetAt p r ≡ fromLocal (offsetOf r)
     go (yes k) = simp (le-leb 3 p k)
     go (no n) = let k : p < 3 = omega arith in simp (lt-leb 3 p k, h k)
 
@@ -94,11 +94,11 @@ fraction-same p d a n l m = go (dec_le 4 p) (dec_lt 0 d)
     go (no h) k = let q : p < 4 = omega arith in simp (lt-leb 4 p q) (none (n q))
 
 -- all the fields of a word, as those of local time
-abbrev pub all_of : Fields → ℕ → BuilderFields
-all_of f a =
+abbrev pub allOf : Fields → ℕ → BuilderFields
+allOf f a =
     record {
       precision = precisionOf f.precision;
-      offset = fromLocal (offset_of f.offset);
+      offset = fromLocal (offsetOf f.offset);
       year = f.year;
       month = f.month;
       day = f.day;
@@ -109,7 +109,7 @@ all_of f a =
       digits = f.digits;
     }
 
-rebuilt-all : {f : Fields} {a : ℕ} → Valid f a → rebuilt f a ≡ all_of f a
+rebuilt-all : {f : Fields} {a : ℕ} → Valid f a → rebuilt f a ≡ allOf f a
 rebuilt-all {f} {a} v =
     let p = f.precision in
     let o = offset-same p f.offset v.no-offset in
@@ -117,7 +117,7 @@ rebuilt-all {f} {a} v =
     let d = given-same 2 p f.day 1 v.no-day in
     let h = given-same 3 p f.hour 0 v.no-hour in
     let mi = given-same 3 p f.minute 0 v.no-minute in
-    let s = given-same 4 p f.second 0 v.no_second in
+    let s = given-same 4 p f.second 0 v.no-second in
     let x = fraction-same p f.digits a v.no-digits v.attoseconds v.multiple in
     let n = given-same 4 p f.digits 0 v.no-digits in
     λ i.
@@ -145,7 +145,7 @@ offset-local : (b : BuilderFields) (o : Offset) → (routeChecks b (fromLocal o)
 offset-local b Unknown = (refl, refl)
 offset-local b (Known m) = (refl, refl)
 
-all-bounds : {f : Fields} {a : ℕ} → Valid f a → InBounds (all_of f a)
+all-bounds : {f : Fields} {a : ℕ} → Valid f a → InBounds (allOf f a)
 all-bounds {f} {a} v =
     record {
       attoseconds = v.attoseconds;
@@ -156,26 +156,26 @@ all-bounds {f} {a} v =
       minute = v.minute;
       second = v.second;
       digits = v.digits;
-      offset = subst WithinDay (sym (offset-is (offset_of f.offset))) (valid-offset v);
+      offset = subst WithinDay (sym (offset-is (offsetOf f.offset))) (valid-offset v);
     }
 
-all-number : {f : Fields} {a : ℕ} → Valid f a → buildNumber (all_of f a) ≡ 0
+all-number : {f : Fields} {a : ℕ} → Valid f a → buildNumber (allOf f a) ≡ 0
 unfolding buildNumber
 all-number {f} {a} v =
-    let b = all_of f a in
+    let b = allOf f a in
     let y : not (isYear f.year) ≡ false = ap not ((year-decides f.year).1 (v.from-year, v.to-year)) in
     let d : not (isDay b) ≡ false = ap not (date-is (dateIn f) v.date) in
-    ap (λ (l : List (Bool × ℕ)). first_of (rangeChecks b ++ l)) (offset-local b (offset_of f.offset)).0
+    ap (λ (l : List (Bool × ℕ)). firstOf (rangeChecks b ++ l)) (offset-local b (offsetOf f.offset)).0
     ∙ pass-zero (rangeChecks b ++ localChecks b) (pass-append (rangeChecks b) (localChecks b) (bounds-pass b (all-bounds v)) (y, (d, tt)))
 
-all-pair : {f : Fields} {a : ℕ} → Valid f a → buildPair (all_of f a) ≡ packedPair (word_of f) a
+all-pair : {f : Fields} {a : ℕ} → Valid f a → buildPair (allOf f a) ≡ packedPair (wordOf f) a
 unfolding buildPair
 all-pair {f} {a} v =
-    let b = all_of f a in
+    let b = allOf f a in
     let p : precisionNumber (precisionOf f.precision) ≡ f.precision = precision-min f.precision ∙ omega (arith, v.precision) in
-    let r : rawOf (offset_of f.offset) ≡ f.offset = back-and-raw f.offset v.offset in
-    ap₂ (pair_at b) (offset-local b (offset_of f.offset)).1 (offset-is (offset_of f.offset))
-    ∙ ap (λ (g : Fields). packedPair (word_of g) a)
+    let r : rawOf (offsetOf f.offset) ≡ f.offset = back-and-raw f.offset v.offset in
+    ap₂ (pairAt b) (offset-local b (offsetOf f.offset)).1 (offset-is (offsetOf f.offset))
+    ∙ ap (λ (g : Fields). packedPair (wordOf g) a)
     (λ i.
     record {
       year = f.year;
@@ -189,10 +189,10 @@ all-pair {f} {a} v =
       offset = r i;
     })
 
-valid-builds : {f : Fields} {a : ℕ} → Valid f a → buildOf (all_of f a) ≡ acceptedBuild (packedPair (word_of f) a)
+valid-builds : {f : Fields} {a : ℕ} → Valid f a → buildOf (allOf f a) ≡ acceptedBuild (packedPair (wordOf f) a)
 unfolding buildOf
 valid-builds v = ap₂ buildAnswer (all-number v) (all-pair v)
 
 -- what the check rebuilds of valid fields is built into their pair
-pub rebuilt-builds : {f : Fields} {a : ℕ} → Valid f a → buildOf (rebuilt f a) ≡ acceptedBuild (packedPair (word_of f) a)
+pub rebuilt-builds : {f : Fields} {a : ℕ} → Valid f a → buildOf (rebuilt f a) ≡ acceptedBuild (packedPair (wordOf f) a)
 rebuilt-builds v = ap buildOf (rebuilt-all v) ∙ valid-builds v

@@ -6,8 +6,8 @@ use Prim.Native.Nat.{ℕ, ◌%◌, ◌^◌, ◌≤◌, ◌<◌}
 use lib.Dec.{eqb, leb, ltb}
 use borrow.Author.Tests.{eqb-true, eq-eqb, ne_eqb}
 use Rattle.ion.specs.Calendar.Dates.{isDate, IsDate}
-use Rattle.ion.specs.Pair.Word.{fields_of}
-use Rattle.ion.specs.Pair.Pair.{word_in}
+use Rattle.ion.specs.Pair.Word.{fieldsOf}
+use Rattle.ion.specs.Pair.Pair.{wordIn}
 use Rattle.ion.specs.Pair.Fraction.{scale}
 use Rattle.ion.specs.Calls.Check.{checkOf}
 use Rattle.ion.specs.Calls.Accepted.{Valid, dateIn}
@@ -75,8 +75,8 @@ date-decides t = (is-date t, date-is t)
 abbrev All : Fields → ℕ → Type 0
 All f a = (((Bounds f × First f) × (a < 10 ^ 18)) × IsDate (dateIn f)) × (a % scale f.digits ≡ 0)
 
-all_valid : (f : Fields) (a : ℕ) → All f a → Valid f a
-all_valid f a (((((((((((y, z), h), mi), s), p), n), o), (((mo, d), t), u)), l), day), m) =
+all-valid : (f : Fields) (a : ℕ) → All f a → Valid f a
+all-valid f a (((((((((((y, z), h), mi), s), p), n), o), (((mo, d), t), u)), l), day), m) =
     record {
       from-year = y;
       to-year = z;
@@ -94,7 +94,7 @@ all_valid f a (((((((((((y, z), h), mi), s), p), n), o), (((mo, d), t), u)), l),
       no-hour = λ k. (t k).0.0;
       no-minute = λ k. (t k).0.1;
       no-offset = λ k. (t k).1;
-      no_second = λ k. (u k).0;
+      no-second = λ k. (u k).0;
       no-digits = λ k. (u k).1;
     }
 
@@ -103,7 +103,7 @@ valid-all f a v =
     let b : Bounds f = (((((((v.from-year, v.to-year), v.hour), v.minute), v.second), v.precision), v.digits), v.offset) in
     let i : First f = (
       ((v.no-month, v.no-day), λ k. ((v.no-hour k, v.no-minute k), v.no-offset k)),
-      λ k. (v.no_second k, v.no-digits k),
+      λ k. (v.no-second k, v.no-digits k),
     ) in
     ((((b, i), v.attoseconds), v.date), v.multiple)
 
@@ -111,18 +111,18 @@ pub valid-decides : (f : Fields) (a : ℕ) → Decides (validTest f a) (Valid f 
 valid-decides f a =
     let head = bounds-decides f and first-decides f and lt-decides a (10 ^ 18) in
     let all = head and date-decides (dateIn f) and eq-decides (a % scale f.digits) 0 in
-    (λ t. all_valid f a (all.0 t), λ v. all.1 (valid-all f a v))
+    (λ t. all-valid f a (all.0 t), λ v. all.1 (valid-all f a v))
 
 -- ---- the check
 
 -- a word of 64 bits whose low four are 0
-pub accepted-decides : (s : Timestamp) → word_in s < 2 ^ 64 → word_in s % 16 ≡ 0
-    → Decides (eqb (checkOf s).number 0) (Valid (fields_of (word_in s)) s.attoseconds)
+pub accepted-decides : (s : Timestamp) → wordIn s < 2 ^ 64 → wordIn s % 16 ≡ 0
+    → Decides (eqb (checkOf s).number 0) (Valid (fieldsOf (wordIn s)) s.attoseconds)
 accepted-decides s h z = (
   λ t. (check-gives s (eqb-true (checkOf s).number 0 t)).fields,
   λ v. eq-eqb (checkOf s).number 0 (check-zero s (record { fields = v; reserved = z; fits = h })),
 )
 
 -- else it is refused
-pub reserved-refused : (s : Timestamp) → (word_in s % 16 ≡ 0 → ⊥) → eqb (checkOf s).number 0 ≡ false
+pub reserved-refused : (s : Timestamp) → (wordIn s % 16 ≡ 0 → ⊥) → eqb (checkOf s).number 0 ≡ false
 reserved-refused s n = ne_eqb (checkOf s).number 0 (λ e. n (check-gives s e).reserved)

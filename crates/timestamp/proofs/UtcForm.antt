@@ -5,7 +5,7 @@ use native.Mathlib.Omega.{arith}
 use lib.IntN.{ℤ, neg_ℤ, nat_abs}
 use Rattle.integers.proofs.Signs.{size-neg}
 use Rattle.ion.specs.Calendar.Shift.{IsDateTime}
-use Rattle.ion.specs.Pair.Offset.{WithinDay, rawOf, offset_of}
+use Rattle.ion.specs.Pair.Offset.{WithinDay, rawOf, offsetOf}
 use Rattle.ion.specs.Pair.Word.{InRange}
 use Rattle.ion.specs.Calls.Accepted.{Valid, timeIn}
 use Rattle.ion.specs.Calls.Utc.{utcBy, utcFields}
@@ -31,7 +31,7 @@ pub record IsUtc (f g : Fields) : Type 0 where
   pub digits : g.digits ≡ f.digits
   pub offset : g.offset.0 ≡ 0
 
-moved : {f : Fields} {a : ℕ} (o : Offset) → offset_of f.offset ≡ o → Valid f a → WithinDay o → IsUtc f (utcBy o f)
+moved : {f : Fields} {a : ℕ} (o : Offset) → offsetOf f.offset ≡ o → Valid f a → WithinDay o → IsUtc f (utcBy o f)
 moved {f} Unknown e v w =
     record {
       time = valid-time v;
@@ -55,7 +55,7 @@ moved {f} (Known m) e v w =
 
 pub utc-is : {f : Fields} {a : ℕ} → Valid f a → IsUtc f (utcFields f)
 unfolding utcFields
-utc-is {f} v = moved (offset_of f.offset) refl v (valid-offset v)
+utc-is {f} v = moved (offsetOf f.offset) refl v (valid-offset v)
 
 pub utc-in-range : {f : Fields} {a : ℕ} → Valid f a → InRange (utcFields f)
 utc-in-range {f} v =

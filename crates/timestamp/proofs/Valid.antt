@@ -3,9 +3,9 @@ use mathlib.Core.Path.{◌≡◌, sym, ap, subst, ◌∙◌}
 use Prim.Native.Nat.{ℕ, ◌<◌}
 use native.Mathlib.Omega.{arith}
 use Rattle.ion.specs.Calendar.Shift.{IsDateTime}
-use Rattle.ion.specs.Pair.Offset.{WithinDay, rawOf, offset_of}
-use Rattle.ion.specs.Pair.Word.{InRange, word_of, fields_of}
-use Rattle.ion.specs.Pair.Pair.{word_in, packedPair}
+use Rattle.ion.specs.Pair.Offset.{WithinDay, rawOf, offsetOf}
+use Rattle.ion.specs.Pair.Word.{InRange, wordOf, fieldsOf}
+use Rattle.ion.specs.Pair.Pair.{wordIn, packedPair}
 use Rattle.ion.specs.Calls.Build.{precisionNumber, toOffset, givenTime, localTime, packedOf, buildNumber, buildPair}
 use Rattle.ion.specs.Calls.Accepted.{Staged, Valid, Accepted, timeIn}
 use Rattle.ion.specs.declared.DateTime.{DateTime}
@@ -14,7 +14,7 @@ use Rattle.ion.specs.declared.BuilderFields.{BuilderFields}
 use Rattle.ion.specs.declared.BuilderOffset.{BuilderOffset}
 use Rattle.ion.specs.declared.Timestamp.{Timestamp}
 use Rattle.ion.proofs.Offsets.{raw-lt, back-within}
-use Rattle.packed.proofs.Words.{unpack-pack, pack-unpack, word_lt, word_low}
+use Rattle.packed.proofs.Words.{unpack-pack, pack-unpack, word-lt, word-low}
 use Rattle.builder.proofs.Bounds.{precision-le}
 use Rattle.builder.proofs.Times.{fields-in-range, build-local}
 
@@ -47,7 +47,7 @@ build-valid b s e =
       no-hour = λ k. ap (λ (t : DateTime). t.hour) (unmoved b s k) ∙ s.hour k;
       no-minute = λ k. ap (λ (t : DateTime). t.minute) (unmoved b s k) ∙ s.minute k;
       no-offset = λ k. ap (λ (o : BuilderOffset). (rawOf (toOffset o)).0) (s.offset k);
-      no_second = s.second;
+      no-second = s.second;
       no-digits = s.digits;
     }
 
@@ -57,7 +57,7 @@ build-valid b s e =
 pub valid-time : {f : Fields} {a : ℕ} → Valid f a → IsDateTime (timeIn f)
 valid-time v = record { date = v.date; hours = omega (arith, v.hour); minutes = omega (arith, v.minute) }
 
-pub valid-offset : {f : Fields} {a : ℕ} → Valid f a → WithinDay (offset_of f.offset)
+pub valid-offset : {f : Fields} {a : ℕ} → Valid f a → WithinDay (offsetOf f.offset)
 valid-offset {f} v = back-within f.offset v.offset
 
 pub valid-in-range : {f : Fields} {a : ℕ} → Valid f a → InRange f
@@ -66,15 +66,15 @@ valid-in-range {f} v =
 
 -- ---- accepted pairs
 
-pub valid-accepted : {f : Fields} {a : ℕ} → Valid f a → Accepted (packedPair (word_of f) a)
+pub valid-accepted : {f : Fields} {a : ℕ} → Valid f a → Accepted (packedPair (wordOf f) a)
 valid-accepted {f} {a} v =
     let r = valid-in-range v in
-    record { fields = subst (λ (g : Fields). Valid g a) (sym (unpack-pack f r)) v; reserved = word_low f r; fits = word_lt f r }
+    record { fields = subst (λ (g : Fields). Valid g a) (sym (unpack-pack f r)) v; reserved = word-low f r; fits = word-lt f r }
 
 pub build-accepted : (b : BuilderFields) → Staged b → buildNumber b ≡ 0 → Accepted (buildPair b)
 unfolding buildPair
 build-accepted b s e = valid-accepted (build-valid b s e)
 
 -- the word is that of its fields
-pub accepted-word : {s : Timestamp} → Accepted s → word_of (fields_of (word_in s)) ≡ word_in s
-accepted-word {s} t = pack-unpack (word_in s) t.fits t.reserved
+pub accepted-word : {s : Timestamp} → Accepted s → wordOf (fieldsOf (wordIn s)) ≡ wordIn s
+accepted-word {s} t = pack-unpack (wordIn s) t.fits t.reserved

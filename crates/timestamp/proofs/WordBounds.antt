@@ -4,8 +4,8 @@ use mathlib.Core.List.{List, [], ◌∷◌}
 use Prim.Native.Nat.{ℕ, ◌*◌, ◌^◌, ◌≤◌, ◌<◌}
 use native.Mathlib.Omega.{arith}
 use lib.Dec.{eqb, leb, ltb, lit<}
-use Rattle.ion.specs.Pair.Layout.{field_at}
-use Rattle.ion.specs.Pair.Word.{fields_of}
+use Rattle.ion.specs.Pair.Layout.{fieldAt}
+use Rattle.ion.specs.Pair.Word.{fieldsOf}
 use Rattle.packed.proofs.Limits.{Limited, limited, Fits, beyond, beyond-within, within-beyond}
 use Rattle.packed.proofs.Words.{unpacked}
 use Rattle.places.proofs.Decides.{Decides, le-decides, lt-decides, eq-decides, ◌and◌}
@@ -28,14 +28,14 @@ others-fits = (lit< tt, (lit< tt, (lit< tt, tt)))
 abbrev pub wordTest : ℕ → Bool
 wordTest w = leb (2 ^ 50) w && ltb w (10000 * 2 ^ 50) && eqb (beyond 16 masked w) 0 && eqb (beyond 4 others w) 0
 
-pub word-decides : (w : ℕ) → w < 2 ^ 64 → Decides (wordTest w) (Bounds (fields_of w))
+pub word-decides : (w : ℕ) → w < 2 ^ 64 → Decides (wordTest w) (Bounds (fieldsOf w))
 word-decides w h =
     let u = unpacked w in
     let y = le-decides (2 ^ 50) w and lt-decides w (10000 * 2 ^ 50) in
     let d = y and eq-decides (beyond 16 masked w) 0 and eq-decides (beyond 4 others w) 0 in (
       λ t.
           let r = d.0 t in
-          let y : (1 ≤ (fields_of w).year) × ((fields_of w).year ≤ 9999) = omega (arith, u.year, r.0.0) in
+          let y : (1 ≤ (fieldsOf w).year) × ((fieldsOf w).year ≤ 9999) = omega (arith, u.year, r.0.0) in
           let p = beyond-within 16 masked w masked-fits r.0.1 in
           let q = beyond-within 4 others w others-fits r.1 in (
             (
@@ -51,12 +51,12 @@ word-decides w h =
             omega (arith, u.offset, q.1.1.0),
           ),
       λ b.
-          let hour : field_at 36 5 w ≤ 23 = omega (arith, u.hour, b.0.0.0.0.0.1) in
-          let minute : field_at 30 6 w ≤ 59 = omega (arith, u.minute, b.0.0.0.0.1) in
-          let second : field_at 24 6 w ≤ 59 = omega (arith, u.second, b.0.0.0.1) in
-          let precision : field_at 21 3 w ≤ 4 = omega (arith, u.precision, b.0.0.1) in
-          let digits : field_at 16 5 w ≤ 18 = omega (arith, u.digits, b.0.1) in
-          let offset : field_at 4 12 w ≤ 2879 = omega (arith, u.offset, b.1) in
+          let hour : fieldAt 36 5 w ≤ 23 = omega (arith, u.hour, b.0.0.0.0.0.1) in
+          let minute : fieldAt 30 6 w ≤ 59 = omega (arith, u.minute, b.0.0.0.0.1) in
+          let second : fieldAt 24 6 w ≤ 59 = omega (arith, u.second, b.0.0.0.1) in
+          let precision : fieldAt 21 3 w ≤ 4 = omega (arith, u.precision, b.0.0.1) in
+          let digits : fieldAt 16 5 w ≤ 18 = omega (arith, u.digits, b.0.1) in
+          let offset : fieldAt 4 12 w ≤ 2879 = omega (arith, u.offset, b.1) in
           d.1 (
             (
               (omega (arith, u.year, b.0.0.0.0.0.0.0), omega (arith, u.year, h, b.0.0.0.0.0.0.1)),

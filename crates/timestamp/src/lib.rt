@@ -1,4 +1,6 @@
 // The packed check and the UTC form.
+#![tactic(auto)]
+
 mod accepted;
 mod checking;
 mod utc;

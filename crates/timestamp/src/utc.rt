@@ -1,6 +1,6 @@
 // The UTC form.
 ghost use Rattle.std.specs.Prelude.{◌≡◌, ◌≤◌};
-ghost use Rattle.ion.specs.Pair.Offset.{WithinDay, offset_of};
+ghost use Rattle.ion.specs.Pair.Offset.{WithinDay, offsetOf};
 ghost use Rattle.ion.specs.Calendar.Shift.{IsDateTime, shifted};
 ghost use Rattle.ion.specs.Calls.Accepted.{timeIn};
 ghost use Rattle.ion.specs.Calls.Utc.{withTime, utcFields, utcOf};
@@ -39,7 +39,7 @@ pub fn shifted_fields(f: Fields, m: OffsetMinutes, raw: RawOffset) -> Fields
 
 // The fields in UTC: the offset is subtracted and marked unknown. An unknown offset changes nothing.
 pub fn utc_fields(f: Fields) -> Fields
-    requires { IsDateTime (timeIn f) × (f.year ≤ 9999) × WithinDay (offset_of f.offset) }
+    requires { IsDateTime (timeIn f) × (f.year ≤ 9999) × WithinDay (offsetOf f.offset) }
     ensures { result ≡ utcFields f }
 {
     let raw = f.offset;

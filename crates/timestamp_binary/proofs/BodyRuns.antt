@@ -13,12 +13,12 @@ use Rattle.ion.specs.Numbers.VarInt.{signed, varint}
 use Rattle.ion.specs.Numbers.Int.{int}
 use Rattle.ion.specs.Numbers.Decimal.{decimalBytes}
 use Rattle.ion.specs.Pair.Fraction.{scale}
-use Rattle.ion.specs.Pair.Offset.{offset_of}
-use Rattle.ion.specs.Pair.Pair.{word_in}
-use Rattle.ion.specs.Pair.Word.{fields_of}
+use Rattle.ion.specs.Pair.Offset.{offsetOf}
+use Rattle.ion.specs.Pair.Pair.{wordIn}
+use Rattle.ion.specs.Pair.Word.{fieldsOf}
 use Rattle.ion.specs.Calls.Accepted.{Accepted}
 use Rattle.ion.specs.Calls.Utc.{utcFields}
-use Rattle.ion.specs.Value.Encode.{offsetBytes, varuints, fieldList, fieldCount, fractionBytes, bodyFrom, body_of}
+use Rattle.ion.specs.Value.Encode.{offsetBytes, varuints, fieldList, fieldCount, fractionBytes, bodyFrom, bodyOf}
 use Rattle.ion.specs.declared.Fields.{Fields}
 use Rattle.ion.specs.declared.Timestamp.{Timestamp}
 use Rattle.binary.proofs.VarUInts.{length-varuint}
@@ -59,9 +59,9 @@ varuints-room (v ∷ l) (suc i) (suc n) h k =
 
 -- ---- the fraction, whose exponent is minus its number of digits
 
-pub no_fraction : (d c : ℕ) → d ≡ 0 → fractionBytes d c ≡ []
+pub no-fraction : (d c : ℕ) → d ≡ 0 → fractionBytes d c ≡ []
 unfolding fractionBytes
-no_fraction d c e = rw e
+no-fraction d c e = rw e
 
 pub fraction-some : (d c : ℕ) → (d ≡ 0 → ⊥) → decimalBytes c (pos 0 -ℤ pos d) ≡ fractionBytes d c
 unfolding fractionBytes
@@ -75,16 +75,16 @@ fraction-bytes d c = decimal-fraction c d
 -- ---- the body of an accepted timestamp
 
 -- its offset, the fields that its precision has, and its fraction
-pub body-parts : (s : Timestamp) → Accepted s → {f u : Fields} → f ≡ fields_of (word_in s) → u ≡ utcFields f
-    → body_of s
-    ≡ offsetBytes (offset_of f.offset)
+pub body-parts : (s : Timestamp) → Accepted s → {f u : Fields} → f ≡ fieldsOf (wordIn s) → u ≡ utcFields f
+    → bodyOf s
+    ≡ offsetBytes (offsetOf f.offset)
     ++ (varuints (take (fieldCount f.precision) (fieldList u)) ++ fractionBytes f.digits (s.attoseconds / scale f.digits))
-unfolding body_of bodyFrom
+unfolding bodyOf bodyFrom
 body-parts s p e k =
-    let g = fields_of (word_in s) in
+    let g = fieldsOf (wordIn s) in
     let i = utc-is p.fields in
     let w = k ∙ ap utcFields e in
-    let o = offsetBytes (offset_of g.offset) in
+    let o = offsetBytes (offsetOf g.offset) in
     let l = fieldList (utcFields g) in
     let c = s.attoseconds / scale g.digits in
     rw (w, e) (ap₂ (λ (n d : ℕ). o ++ (varuints (take (fieldCount n) l) ++ fractionBytes d c)) i.precision i.digits)

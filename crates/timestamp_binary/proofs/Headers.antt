@@ -9,9 +9,9 @@ use lib.ListN.{length, take, drop, set, length-set}
 use lib.Seq.{length-take-le}
 use Rattle.ion.specs.Calls.Output.{Run, Between}
 use Rattle.ion.specs.Numbers.VarUInt.{groups, varuint, groupCount}
-use Rattle.ion.specs.Value.Encode.{body_of, header, value_of}
+use Rattle.ion.specs.Value.Encode.{bodyOf, header, valueOf}
 use Rattle.ion.specs.declared.Timestamp.{Timestamp}
-use Rattle.output.proofs.Stores.{length_over}
+use Rattle.output.proofs.Stores.{length-over}
 use Rattle.output.proofs.Runs.{run-front}
 use Rattle.binary.proofs.Groups.{groups-one}
 use Rattle.binary.proofs.VarUInts.{count-shortest, count-some}
@@ -45,15 +45,15 @@ record Front (b t : List ℕ) (e : ℕ) : Type 0 where
   end : e ≡ suc (suc size)
   is : take size rest ≡ t
 
-front_of : (b a t : List ℕ) (e : ℕ) → length a ≡ 2 → take e b ≡ a ++ t → Front b t e
-front_of b [] t e l h = absurd (omega arith)
-front_of b (x ∷ []) t e l h = absurd (omega arith)
-front_of b (x ∷ y ∷ z ∷ a) t e l h = absurd (omega arith)
-front_of b (x ∷ y ∷ []) t zero l h = absurd (let z : ◌≡◌ {A = ℕ} 0 1 = cc in omega arith)
-front_of [] (x ∷ y ∷ []) t (suc e) l h = absurd (let z : ◌≡◌ {A = ℕ} 0 1 = cc in omega arith)
-front_of (p ∷ b) (x ∷ y ∷ []) t (suc zero) l h = absurd (let z : ◌≡◌ {A = ℕ} 0 1 = cc in omega arith)
-front_of (p ∷ []) (x ∷ y ∷ []) t (suc (suc e)) l h = absurd (let z : ◌≡◌ {A = ℕ} 0 1 = cc in omega arith)
-front_of (p ∷ q ∷ r) (x ∷ y ∷ []) t (suc (suc e)) l h = record { one = p; two = q; rest = r; size = e; bytes = refl; end = refl; is = cc }
+front-of : (b a t : List ℕ) (e : ℕ) → length a ≡ 2 → take e b ≡ a ++ t → Front b t e
+front-of b [] t e l h = absurd (omega arith)
+front-of b (x ∷ []) t e l h = absurd (omega arith)
+front-of b (x ∷ y ∷ z ∷ a) t e l h = absurd (omega arith)
+front-of b (x ∷ y ∷ []) t zero l h = absurd (let z : ◌≡◌ {A = ℕ} 0 1 = cc in omega arith)
+front-of [] (x ∷ y ∷ []) t (suc e) l h = absurd (let z : ◌≡◌ {A = ℕ} 0 1 = cc in omega arith)
+front-of (p ∷ b) (x ∷ y ∷ []) t (suc zero) l h = absurd (let z : ◌≡◌ {A = ℕ} 0 1 = cc in omega arith)
+front-of (p ∷ []) (x ∷ y ∷ []) t (suc (suc e)) l h = absurd (let z : ◌≡◌ {A = ℕ} 0 1 = cc in omega arith)
+front-of (p ∷ q ∷ r) (x ∷ y ∷ []) t (suc (suc e)) l h = record { one = p; two = q; rest = r; size = e; bytes = refl; end = refl; is = cc }
 
 module _ {b t : List ℕ} {e : ℕ} (f : Front b t e) where
   one-stored : (y : ℕ) → take (e - 1) (drop 1 (set b 1 y)) ≡ y ∷ t
@@ -67,35 +67,35 @@ module _ {b t : List ℕ} {e : ℕ} (f : Front b t e) where
 
 -- ---- the header in front of a body that was put two bytes from the start of d
 
-module _ (s : Timestamp) {d b : List ℕ} {e : ℕ} (run : Run d 2 (body_of s) b e) (room : e ≤ length d) where
+module _ (s : Timestamp) {d b : List ℕ} {e : ℕ} (run : Run d 2 (bodyOf s) b e) (room : e ≤ length d) where
   size : length b ≡ length d
-  size = ap length run.bytes ∙ length_over d 2 (body_of s) (omega (arith, run.next))
+  size = ap length run.bytes ∙ length-over d 2 (bodyOf s) (omega (arith, run.next))
 
-  front : Front b (body_of s) e
+  front : Front b (bodyOf s) e
   front =
       let h : 2 ≤ length d = omega (arith, run.next) in
-      front_of b (take 2 d) (body_of s) e (length-take-le 2 d h) (run-front run h)
+      front-of b (take 2 d) (bodyOf s) e (length-take-le 2 d h) (run-front run h)
 
-  body-size : e - 2 ≡ length (body_of s)
+  body-size : e - 2 ≡ length (bodyOf s)
   body-size = omega (arith, run.next)
 
-  pub stored_short : e - 2 ≤ 13 → Between (set b 1 (0x60 + (e - 2))) 1 e (value_of s)
-  unfolding value_of
-  stored_short h =
-      let short = header-short (length (body_of s)) (omega (arith, body-size)) in
+  pub stored-short : e - 2 ≤ 13 → Between (set b 1 (0x60 + (e - 2))) 1 e (valueOf s)
+  unfolding valueOf
+  stored-short h =
+      let short = header-short (length (bodyOf s)) (omega (arith, body-size)) in
       record {
         from = omega (arith, run.next);
         to = simp length-set (omega (arith, size));
-        bytes = one-stored front (0x60 + (e - 2)) ∙ rw body-size (ap (λ (t : List ℕ). t ++ body_of s) (sym short));
+        bytes = one-stored front (0x60 + (e - 2)) ∙ rw body-size (ap (λ (t : List ℕ). t ++ bodyOf s) (sym short));
       }
 
-  pub stored-long : 13 < e - 2 → e - 2 < 128 → Between (set (set b 0 0x6e) 1 (0x80 + (e - 2))) 0 e (value_of s)
-  unfolding value_of
+  pub stored-long : 13 < e - 2 → e - 2 < 128 → Between (set (set b 0 0x6e) 1 (0x80 + (e - 2))) 0 e (valueOf s)
+  unfolding valueOf
   stored-long h l =
-      let long = header-long (length (body_of s)) (omega (arith, body-size)) (omega (arith, body-size)) in
+      let long = header-long (length (bodyOf s)) (omega (arith, body-size)) (omega (arith, body-size)) in
       record {
         from = omega arith;
         to = simp length-set (omega (arith, size));
         bytes = rw (sub-zero e)
-            (two-stored front 0x6e (0x80 + (e - 2)) ∙ rw body-size (ap (λ (t : List ℕ). t ++ body_of s) (sym long)));
+            (two-stored front 0x6e (0x80 + (e - 2)) ∙ rw body-size (ap (λ (t : List ℕ). t ++ bodyOf s) (sym long)));
       }

@@ -8,18 +8,18 @@ use native.Mathlib.Omega.{arith}
 use lib.Dec.{leb, lit≤, lit<}
 use lib.IntN.{nat_abs}
 use lib.ListN.{length, take, length-append, length-take}
-use Rattle.places.proofs.Below.{Below, below-take, each_below}
+use Rattle.places.proofs.Below.{Below, below-take, each-below}
 use Rattle.ion.specs.Numbers.VarUInt.{varuint}
 use Rattle.ion.specs.Numbers.VarInt.{signed, varint, isNegative}
 use Rattle.ion.specs.Numbers.Int.{int}
 use Rattle.ion.specs.Calendar.Shift.{IsDateTime}
-use Rattle.ion.specs.Pair.Offset.{WithinDay, offset_of}
-use Rattle.ion.specs.Pair.Word.{fields_of}
-use Rattle.ion.specs.Pair.Pair.{word_in}
+use Rattle.ion.specs.Pair.Offset.{WithinDay, offsetOf}
+use Rattle.ion.specs.Pair.Word.{fieldsOf}
+use Rattle.ion.specs.Pair.Pair.{wordIn}
 use Rattle.ion.specs.Pair.Fraction.{scale}
 use Rattle.ion.specs.Calls.Accepted.{Accepted, dateIn, timeIn}
 use Rattle.ion.specs.Calls.Utc.{utcFields}
-use Rattle.ion.specs.Value.Encode.{offsetBytes, varuints, fieldList, fieldCount, fractionBytes, bodyFrom, body_of, header, value_of}
+use Rattle.ion.specs.Value.Encode.{offsetBytes, varuints, fieldList, fieldCount, fractionBytes, bodyFrom, bodyOf, header, valueOf}
 use Rattle.ion.specs.declared.Fields.{Fields}
 use Rattle.ion.specs.declared.Timestamp.{Timestamp}
 use Rattle.ion.specs.declared.offset.Offset.{Offset}
@@ -69,15 +69,15 @@ pub fields-below : (b : ℕ) → 60 ≤ b → (u : Fields) → IsDateTime (timeI
     → Below b (u.month ∷ u.day ∷ u.hour ∷ u.minute ∷ u.second ∷ [])
 fields-below b l u t s =
     let d = dateIn u in
-    each_below b (u.month ∷ u.day ∷ u.hour ∷ u.minute ∷ u.second ∷ []) (
+    each-below b (u.month ∷ u.day ∷ u.hour ∷ u.minute ∷ u.second ∷ []) (
       omega (arith, month-of d t.date),
       (omega (arith, day-of d t.date), (omega (arith, t.hours), (omega (arith, t.minutes), (omega arith, omega arith)))),
     )
 
-pub body-length : (s : Timestamp) → Accepted s → length (body_of s) ≤ 18
-unfolding body_of bodyFrom
+pub body-length : (s : Timestamp) → Accepted s → length (bodyOf s) ≤ 18
+unfolding bodyOf bodyFrom
 body-length s p =
-    let f = fields_of (word_in s) in
+    let f = fieldsOf (wordIn s) in
     let v = p.fields in
     let u = utcFields f in
     let i = utc-is v in
@@ -88,9 +88,9 @@ body-length s p =
     let short = fields-below 128 (lit≤ tt) u i.time (omega (arith, i.second, v.second)) in
     omega (
       arith,
-      length-append (offsetBytes (offset_of f.offset)) (varuints l ++ fractionBytes u.digits c),
+      length-append (offsetBytes (offsetOf f.offset)) (varuints l ++ fractionBytes u.digits c),
       length-append (varuints l) (fractionBytes u.digits c),
-      offset-length (offset_of f.offset) (valid-offset v),
+      offset-length (offsetOf f.offset) (valid-offset v),
       fields-length (fieldCount u.precision) u.year after (omega (arith, i.year)) short,
       fraction-length u.digits c (omega (arith, i.digits, v.digits)) below,
     )
@@ -103,10 +103,10 @@ header-length n h = go (leb n 13)
     go true = omega arith
     go false = omega (arith, length-varuint n, count-shortest 0 n (omega arith))
 
-pub value-length : (s : Timestamp) → Accepted s → length (value_of s) ≤ 20
-unfolding value_of
+pub value-length : (s : Timestamp) → Accepted s → length (valueOf s) ≤ 20
+unfolding valueOf
 value-length s p =
-    let b = body_of s in
+    let b = bodyOf s in
     let most = body-length s p in
     omega (arith, length-append (header (length b)) b, header-length (length b) (omega (arith, most)), most)
 
@@ -150,10 +150,10 @@ header-some n = go (leb n 13)
     go true = omega arith
     go false = omega arith
 
-pub value-some : (s : Timestamp) → 3 ≤ length (value_of s)
-unfolding value_of body_of
+pub value-some : (s : Timestamp) → 3 ≤ length (valueOf s)
+unfolding valueOf bodyOf
 value-some s =
-    let f = fields_of (word_in s) in
+    let f = fieldsOf (wordIn s) in
     let c = s.attoseconds / scale f.digits in
-    let b = bodyFrom (offset_of f.offset) (utcFields f) c in
-    omega (arith, length-append (header (length b)) b, header-some (length b), body-some (offset_of f.offset) (utcFields f) c)
+    let b = bodyFrom (offsetOf f.offset) (utcFields f) c in
+    omega (arith, length-append (header (length b)) b, header-some (length b), body-some (offsetOf f.offset) (utcFields f) c)

@@ -5,7 +5,7 @@ ghost use Rattle.ion.specs.Pair.Fraction.{scale};
 ghost use Rattle.ion.specs.Calls.Output.{Run, Between, putAfter, wroteAfter};
 ghost use Rattle.ion.specs.Calls.Check.{checkNumber};
 ghost use Rattle.ion.specs.Calls.Accepted.{Accepted};
-ghost use Rattle.ion.specs.Value.Encode.{offsetBytes, varuints, fieldCount, fractionBytes, body_of, value_of};
+ghost use Rattle.ion.specs.Value.Encode.{offsetBytes, varuints, fieldCount, fractionBytes, bodyOf, valueOf};
 
 use binary::var_int::Parts;
 use binary::var_uint::END_FLAG;
@@ -29,7 +29,7 @@ pub const MAX_BODY_LENGTH: usize = 18;
 pub const MAX_TIMESTAMP_LENGTH: usize = 32;
 
 // Where bytes stand in an array.
-#[derive(Drop)]
+#[derive(Clone, Copy)]
 pub struct Span {
     pub start: usize,
     pub end: usize,
@@ -91,8 +91,8 @@ fn put_fraction(buf: &mut [u8], at: usize, digits: u32, attoseconds: u64) -> usi
 
 // The body of an accepted timestamp, where there is room for it.
 fn put_body(buf: &mut [u8], at: usize, s: Timestamp) -> usize
-    requires { Accepted s × (at + length (body_of s) ≤ length buf.old) }
-    ensures { Run buf.old at (body_of s) buf.new result }
+    requires { Accepted s × (at + length (bodyOf s) ≤ length buf.old) }
+    ensures { Run buf.old at (bodyOf s) buf.new result }
 {
     let local = packed::unpack(s.packed_fields);
     let utc = timestamp::utc_fields(local);
@@ -108,8 +108,8 @@ fn put_body(buf: &mut [u8], at: usize, s: Timestamp) -> usize
 
 // Writes the body of a timestamp's value from index `at` on.
 pub fn encode_timestamp(buf: &mut [u8], at: usize, s: Timestamp) -> Written
-    ensures value { result ≡ wroteAfter (checkNumber s) buf.old at (body_of s) }
-    ensures buf_after { buf.new ≡ putAfter (checkNumber s) buf.old at (body_of s) }
+    ensures value { result ≡ wroteAfter (checkNumber s) buf.old at (bodyOf s) }
+    ensures buf_after { buf.new ≡ putAfter (checkNumber s) buf.old at (bodyOf s) }
 {
     let number = timestamp::check_number(s);
     if number != 0 {
@@ -126,7 +126,7 @@ pub fn encode_timestamp(buf: &mut [u8], at: usize, s: Timestamp) -> Written
 // Gathers the value of an accepted timestamp in `bytes`: its header goes into the two bytes before its body.
 pub fn gather_value(bytes: &mut [u8], s: Timestamp) -> Span
     requires { Accepted s × (20 ≤ length bytes.old) }
-    ensures { Between bytes.new result.start result.end (value_of s) }
+    ensures { Between bytes.new result.start result.end (valueOf s) }
 {
     let end = put_body(bytes, 2, s);
     let length = end - 2;
@@ -141,8 +141,8 @@ pub fn gather_value(bytes: &mut [u8], s: Timestamp) -> Span
 
 // Writes the value of a timestamp from index `at` on.
 pub fn encode_timestamp_value(buf: &mut [u8], at: usize, s: Timestamp) -> Written
-    ensures value { result ≡ wroteAfter (checkNumber s) buf.old at (value_of s) }
-    ensures buf_after { buf.new ≡ putAfter (checkNumber s) buf.old at (value_of s) }
+    ensures value { result ≡ wroteAfter (checkNumber s) buf.old at (valueOf s) }
+    ensures buf_after { buf.new ≡ putAfter (checkNumber s) buf.old at (valueOf s) }
 {
     let check = timestamp::check_number(s);
     if check != 0 {

@@ -1,4 +1,6 @@
 // Values of timestamps in Ion binary, written.
+#![tactic(auto)]
+
 mod encoder;
 
 pub use encoder::{

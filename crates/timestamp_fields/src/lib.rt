@@ -1,8 +1,10 @@
 // What a timestamp holds, after its check: the fields of the packed word and the offset; the fraction is a module of its own.
+#![tactic(auto)]
+
 mod fractional_seconds;
 
 ghost use Rattle.std.specs.Prelude.{◌≡◌};
-ghost use Rattle.ion.specs.Calls.Reads.{field_of, yearOf, monthOf, dayOf, hourOf, minuteOf, second_of, precisionFieldOf, digitsFieldOf};
+ghost use Rattle.ion.specs.Calls.Reads.{fieldOf, yearOf, monthOf, dayOf, hourOf, minuteOf, secondOf, precisionFieldOf, digitsFieldOf};
 ghost use Rattle.ion.specs.Calls.Reads.{offsetFieldOf};
 
 pub use fractional_seconds::{
@@ -14,7 +16,7 @@ use timestamp::check_number;
 
 // A value of the timestamp, or 0 beside the number of a refusal.
 fn field(s: Timestamp, value: u32) -> Field
-    ensures { result ≡ field_of value s }
+    ensures { result ≡ fieldOf value s }
 {
     let number = check_number(s);
     if number != 0 {
@@ -62,7 +64,7 @@ pub fn minute(s: Timestamp) -> Field
 }
 
 pub fn second(s: Timestamp) -> Field
-    ensures { result ≡ second_of s }
+    ensures { result ≡ secondOf s }
 {
     field(s, packed::second(s.packed_fields))
 }

@@ -11,7 +11,7 @@ use lib.IntN.{ℤ, pos, negsuc, nat_abs}
 use lib.ListN.{length, length-append}
 use Rattle.ion.specs.Text.Ascii.{ascii}
 use Rattle.ion.specs.Numbers.Padded.{padded}
-use Rattle.ion.specs.Pair.Offset.{WithinDay, offset_of}
+use Rattle.ion.specs.Pair.Offset.{WithinDay, offsetOf}
 use Rattle.ion.specs.Pair.Fraction.{scale}
 use Rattle.ion.specs.Pair.Word.{InRange}
 use Rattle.ion.specs.Calls.Accepted.{Valid}
@@ -20,7 +20,7 @@ use Rattle.ion.specs.declared.Fields.{Fields}
 use Rattle.ion.specs.declared.offset.Offset.{Offset}
 use Rattle.ion.specs.declared.offset.Offset.TheVariants.{Unknown, Known}
 use Rattle.text.proofs.Digits.{length-exact}
-use Rattle.fraction.proofs.Scales.{units_lt}
+use Rattle.fraction.proofs.Scales.{units-lt}
 use Rattle.timestamp.proofs.Valid.{valid-in-range, valid-offset}
 use Rattle.timestamp_text.specs.TextParts.{toMonth, toDay, toHour, toMinute, toSecond, toFraction, fractionLength, textLength}
 
@@ -39,36 +39,36 @@ module _ (f : Fields) (a : ℕ) where
   unfolding fieldsText
   day-form e = rw e
 
-  pub minute-form : f.precision ≡ 3 → fieldsText f a ≡ toMinute f ++ offsetText (offset_of f.offset)
+  pub minute-form : f.precision ≡ 3 → fieldsText f a ≡ toMinute f ++ offsetText (offsetOf f.offset)
   unfolding fieldsText
   minute-form e = rw e
 
   pub second-form : (f.precision ≡ 0 → ⊥) → (f.precision ≡ 1 → ⊥) → (f.precision ≡ 2 → ⊥) → (f.precision ≡ 3 → ⊥)
-      → fieldsText f a ≡ toFraction f a ++ offsetText (offset_of f.offset)
+      → fieldsText f a ≡ toFraction f a ++ offsetText (offsetOf f.offset)
   unfolding fieldsText
   second-form e₀ e₁ e₂ e₃ =
       rw (ne_eqb f.precision 0 e₀, ne_eqb f.precision 1 e₁, ne_eqb f.precision 2 e₂, ne_eqb f.precision 3 e₃)
 
 -- ---- parts
 
-pub length_marked : (c n : ℕ) → n < 100 → length (marked c n) ≡ 3
+pub length-marked : (c n : ℕ) → n < 100 → length (marked c n) ≡ 3
 unfolding marked
-length_marked c n h = omega (arith, length-exact 2 n (lit≤ tt) h)
+length-marked c n h = omega (arith, length-exact 2 n (lit≤ tt) h)
 
 -- what stands in front of a mark and two digits, with them
-length_front : (s : List ℕ) (c n k : ℕ) → length s ≡ k → n < 100 → length (s ++ marked c n) ≡ k + 3
-length_front s c n k e h = omega (arith, length-append s (marked c n), length_marked c n h)
+length-front : (s : List ℕ) (c n k : ℕ) → length s ≡ k → n < 100 → length (s ++ marked c n) ≡ k + 3
+length-front s c n k e h = omega (arith, length-append s (marked c n), length-marked c n h)
 
 pub length-fraction : (d a : ℕ) → d ≤ 18 → a < 10 ^ 18 → length (fractionText d a) ≡ fractionLength d
 unfolding fractionText
 length-fraction zero a h m = refl
 length-fraction (suc n) a h m =
     let d = suc n in
-    rw (ne_eqb d 0 (omega arith)) (omega (arith, length-exact d (a / scale d) (omega arith) (units_lt d a h m)))
+    rw (ne_eqb d 0 (omega arith)) (omega (arith, length-exact d (a / scale d) (omega arith) (units-lt d a h m)))
 
 length-clock : (n : ℕ) → n < 1440 → length (clockText n) ≡ 5
 unfolding clockText
-length-clock n h = length_front (padded 2 (n / 60)) (code ":") (n % 60) 2 (length-exact 2 (n / 60) (lit≤ tt) (omega arith)) (omega arith)
+length-clock n h = length-front (padded 2 (n / 60)) (code ":") (n % 60) 2 (length-exact 2 (n / 60) (lit≤ tt) (omega arith)) (omega arith)
 
 length-minutes : (z : ℤ) → nat_abs z < 1440 → length (minutesText z) ≡ 6
 unfolding minutesText
@@ -88,16 +88,16 @@ module _ (f : Fields) (y : f.year ≤ 9999) (r : InRange f) where
   length-year = length-exact 4 f.year (lit≤ tt) (omega arith)
 
   length-month : length (toMonth f) ≡ 7
-  length-month = length_front (padded 4 f.year) (code "-") f.month 4 length-year (omega arith)
+  length-month = length-front (padded 4 f.year) (code "-") f.month 4 length-year (omega arith)
 
   length-day : length (toDay f) ≡ 10
-  length-day = length_front (toMonth f) (code "-") f.day 7 length-month (omega arith)
+  length-day = length-front (toMonth f) (code "-") f.day 7 length-month (omega arith)
 
   length-hour : length (toHour f) ≡ 13
-  length-hour = length_front (toDay f) (code "T") f.hour 10 length-day (omega arith)
+  length-hour = length-front (toDay f) (code "T") f.hour 10 length-day (omega arith)
 
   length-minute : length (toMinute f) ≡ 16
-  length-minute = length_front (toHour f) (code ":") f.minute 13 length-hour (omega arith)
+  length-minute = length-front (toHour f) (code ":") f.minute 13 length-hour (omega arith)
 
 -- ---- the whole
 
@@ -114,11 +114,11 @@ length-text f a v =
     let mo = length-month f v.to-year r in
     let d = length-day f v.to-year r in
     let mi = length-minute f v.to-year r in
-    let s = length_front (toMinute f) (code ":") f.second 16 mi (omega arith) in
+    let s = length-front (toMinute f) (code ":") f.second 16 mi (omega arith) in
     let u = fractionText f.digits a in
     let x = length-fraction f.digits a v.digits v.attoseconds in
-    let w = offsetText (offset_of f.offset) in
-    let o = length-offset (offset_of f.offset) (valid-offset v) in
+    let w = offsetText (offsetOf f.offset) in
+    let o = length-offset (offsetOf f.offset) (valid-offset v) in
     either (eqb p 0) _ _ 5 _ (omega (arith, length-append (padded 4 f.year) (ascii "T")))
     (either (eqb p 1) _ _ 8 _ (omega (arith, length-append (toMonth f) (ascii "T")))
     (either (eqb p 2) _ _ 11 _ (omega (arith, length-append (toDay f) (ascii "T")))

@@ -1,4 +1,6 @@
 // Port of `Timestamp::format` of types/timestamp.rs: the text of a timestamp.
+#![tactic(auto)]
+
 mod offset;
 mod parts;
 
@@ -6,7 +8,7 @@ ghost use Rattle.std.specs.Prelude.{◌≡◌, ◌+◌, ◌≤◌, length};
 ghost use Rattle.ion.specs.Calls.Accepted.{Valid};
 ghost use Rattle.ion.specs.Calls.Check.{checkNumber};
 ghost use Rattle.ion.specs.Calls.Output.{Run, putAfter, wroteAfter};
-ghost use Rattle.ion.specs.Text.Format.{fieldsText, text_of};
+ghost use Rattle.ion.specs.Text.Format.{fieldsText, textOf};
 ghost use Rattle.timestamp_text.specs.TextParts.{textLength};
 
 use ion::{Fields, Timestamp, Written};
@@ -63,8 +65,8 @@ pub fn text_into(buf: &mut [u8], at: usize, f: Fields, attoseconds: u64) -> usiz
 
 // Writes the text of a timestamp from index `at` on.
 pub fn format(buf: &mut [u8], at: usize, s: Timestamp) -> Written
-    ensures value { result ≡ wroteAfter (checkNumber s) buf.old at (text_of s) }
-    ensures buf_after { buf.new ≡ putAfter (checkNumber s) buf.old at (text_of s) }
+    ensures value { result ≡ wroteAfter (checkNumber s) buf.old at (textOf s) }
+    ensures buf_after { buf.new ≡ putAfter (checkNumber s) buf.old at (textOf s) }
 {
     let number = timestamp::check_number(s);
     if number != 0 {

@@ -1,7 +1,7 @@
 // The offset at the end of a text: six bytes.
 ghost use Rattle.std.specs.Prelude.{◌∷◌, ◌+◌, ◌≤◌, ◌<◌, nat_abs, length};
 ghost use Rattle.ion.specs.Calls.Output.{Run};
-ghost use Rattle.ion.specs.Pair.Offset.{offset_of};
+ghost use Rattle.ion.specs.Pair.Offset.{offsetOf};
 ghost use Rattle.ion.specs.Text.Format.{clockText, minutesText, offsetText};
 
 use crate::parts;
@@ -37,7 +37,7 @@ fn put_minutes(buf: &mut [u8], at: usize, m: OffsetMinutes) -> usize
 
 pub(crate) fn format_offset(buf: &mut [u8], at: usize, raw: RawOffset) -> usize
     requires { (at + 6 ≤ length buf.old) × (raw.0 < 2880) }
-    ensures { Run buf.old at (offsetText (offset_of raw)) buf.new result }
+    ensures { Run buf.old at (offsetText (offsetOf raw)) buf.new result }
 {
     let o = offset::offset_of(raw);
     match o {

@@ -26,8 +26,8 @@ use Rattle.ion.specs.declared.offset.Offset.{Offset}
 use Rattle.ion.specs.declared.offset.Offset.TheVariants.{Unknown, Known}
 use Rattle.binary.proofs.VarUInts.{read-varuint, length-varuint, count-some}
 use Rattle.binary.proofs.VarInts.{read-signed, read-varint, length-signed, signed-some}
-use Rattle.binary.proofs.Ints.{read_int}
-use Rattle.timestamp_binary.proofs.BodyRuns.{no_fraction, fraction-bytes}
+use Rattle.binary.proofs.Ints.{read-int}
+use Rattle.timestamp_binary.proofs.BodyRuns.{no-fraction, fraction-bytes}
 use Rattle.value_reader.specs.BodyParts.{Encodable}
 
 -- ---- the offset
@@ -49,26 +49,26 @@ offset-back (Known m) r h =
 -- ---- the fields
 
 -- where a byte is left, another is decoded
-pub field_next : (n : ℕ) (t : List ℕ) → 0 < length t → decodeFields (suc n) t ≡ fieldFrom (decodeFields n) t (readVarUInt 16383 t)
+pub field-next : (n : ℕ) (t : List ℕ) → 0 < length t → decodeFields (suc n) t ≡ fieldFrom (decodeFields n) t (readVarUInt 16383 t)
 unfolding decodeFields
-field_next n [] h = absurd (omega arith)
-field_next n (b ∷ t) h = refl
+field-next n [] h = absurd (omega arith)
+field-next n (b ∷ t) h = refl
 
-fields_back : (n : ℕ) (l r : List ℕ) → Below 16384 l → length l ≤ n → (length l < n → r ≡ [])
+fields-back : (n : ℕ) (l r : List ℕ) → Below 16384 l → length l ≤ n → (length l < n → r ≡ [])
     → decodeFields n (varuints l ++ r) ≡ found (l, r)
 unfolding varuints decodeFields
-fields_back zero [] r h k z = refl
-fields_back zero (v ∷ l) r h k z = absurd (omega arith)
-fields_back (suc n) [] r h k z = rw (z (omega arith))
-fields_back (suc n) (v ∷ l) r h k z =
+fields-back zero [] r h k z = refl
+fields-back zero (v ∷ l) r h k z = absurd (omega arith)
+fields-back (suc n) [] r h k z = rw (z (omega arith))
+fields-back (suc n) (v ∷ l) r h k z =
     let t = varuints l ++ r in
     let s = varuint v ++ t in
     let x = h 0 in
     rw (append_assoc (varuint v) (varuints l) r)
-    (field_next n s (omega (arith, length-append (varuint v) t, length-varuint v, count-some v))
+    (field-next n s (omega (arith, length-append (varuint v) t, length-varuint v, count-some v))
     ∙ ap (fieldFrom (decodeFields n) s) (read-varuint 16383 v t (omega arith))
     ∙ ap (λ (y : List ℕ). oneMore v (decodeFields n y)) (drop_at (varuint v) t (groupCount v) (length-varuint v))
-    ∙ ap (oneMore v) (fields_back n l r (λ i. h (suc i)) (omega arith) (λ q. z (omega arith))))
+    ∙ ap (oneMore v) (fields-back n l r (λ i. h (suc i)) (omega arith) (λ q. z (omega arith))))
 
 -- ---- the fraction
 
@@ -86,13 +86,13 @@ fraction-back (suc d) c h l z =
     ap decodeFraction (fraction-bytes d c)
     ∙ fraction-next s (omega (arith, length-append e (int c), length-signed true (suc d), signed-some (suc d)))
     ∙ ap (fractionFrom s) (read-signed 63 true (suc d) (int c) h)
-    ∙ rw (lt-ltb 0 (suc d) (omega arith), drop-append_seam e (int c), read_int c l)
+    ∙ rw (lt-ltb 0 (suc d) (omega arith), drop-append_seam e (int c), read-int c l)
 
 -- ---- the whole
 
 -- the fields that are written at a precision
-abbrev fields_at : Fields → ℕ → List ℕ
-fields_at u p = take (fieldCount p) (fieldList u)
+abbrev fieldsAt : Fields → ℕ → List ℕ
+fieldsAt u p = take (fieldCount p) (fieldList u)
 
 -- k is how many are written at a precision p
 record IsCount (k p : ℕ) : Type 0 where
@@ -112,41 +112,41 @@ fields-are u v k e f z =
     ap₂ (λ (w : List ℕ) (j : ℕ). fieldsFrom w j u.digits) e f ∙ ap (withTime u (timeIn u)) (sym z)
 
 module _ (x : Body) (p : Encodable x) where
-  restored_at : (k : ℕ) → x.utc.precision ≡ k → Restores x.utc (fields_at x.utc k) k
+  restored-at : (k : ℕ) → x.utc.precision ≡ k → Restores x.utc (fieldsAt x.utc k) k
   unfolding fieldCount filled precisionWith
-  restored_at zero e =
+  restored-at zero e =
       let hour = p.no-hour (omega arith) in
       let minute = p.no-minute (omega arith) in
-      let second = p.no_second (omega arith) in
+      let second = p.no-second (omega arith) in
       record { all = rw (p.no-month (omega arith), p.no-day (omega arith), hour, minute, second); counted = refl; number = omega arith }
-  restored_at (suc zero) e =
+  restored-at (suc zero) e =
       let hour = p.no-hour (omega arith) in
       let minute = p.no-minute (omega arith) in
-      let second = p.no_second (omega arith) in
+      let second = p.no-second (omega arith) in
       record { all = rw (p.no-day (omega arith), hour, minute, second); counted = refl; number = omega arith }
-  restored_at (suc (suc zero)) e =
+  restored-at (suc (suc zero)) e =
       let hour = p.no-hour (omega arith) in
       let minute = p.no-minute (omega arith) in
-      let second = p.no_second (omega arith) in
+      let second = p.no-second (omega arith) in
       record { all = rw (hour, minute, second); counted = refl; number = omega arith }
-  restored_at (suc (suc (suc zero))) e = record { all = rw (p.no_second (omega arith)); counted = refl; number = omega arith }
-  restored_at (suc (suc (suc (suc zero)))) e = record { all = refl; counted = refl; number = omega arith }
-  restored_at (suc (suc (suc (suc (suc k))))) e = absurd (omega (arith, p.precise))
+  restored-at (suc (suc (suc zero))) e = record { all = rw (p.no-second (omega arith)); counted = refl; number = omega arith }
+  restored-at (suc (suc (suc (suc zero)))) e = record { all = refl; counted = refl; number = omega arith }
+  restored-at (suc (suc (suc (suc (suc k))))) e = absurd (omega (arith, p.precise))
 
   -- a body is read back as its parts
-  pub body_back : decodeBody (bodyFrom x.offset x.utc x.coefficient) ≡ found x
+  pub body-back : decodeBody (bodyFrom x.offset x.utc x.coefficient) ≡ found x
   unfolding decodeBody bodyFrom
-  body_back =
+  body-back =
       let o = x.offset in
       let u = x.utc in
       let c = x.coefficient in
-      let l = fields_at u u.precision in
-      let b = restored_at u.precision refl in
+      let l = fieldsAt u u.precision in
+      let b = restored-at u.precision refl in
       let t = fractionBytes u.digits c in
       let small = below-take 16384 (fieldCount u.precision) (fieldList u) (lit< tt) p.small in
       let fields = fields-are u (filled l) (precisionWith (length l)) b.all b.number.precision p.no-raw in
       ap fromOffset (offset-back o (varuints l ++ t) p.within-day)
-      ∙ ap (afterOffset o) (fields_back 6 l t small b.number.most (λ q. no_fraction u.digits c (p.no-digits (b.number.fewer q))))
+      ∙ ap (afterOffset o) (fields-back 6 l t small b.number.most (λ q. no-fraction u.digits c (p.no-digits (b.number.fewer q))))
       ∙ ap (λ (q : Bool). cond q (afterFields o l (decodeFraction t)) nothing) b.counted
       ∙ ap (afterFields o l) (fraction-back u.digits c p.few-digits p.coefficient p.no-coefficient)
       ∙ ap (λ (w : Fields). found (record { offset = o; utc = w; coefficient = c })) fields

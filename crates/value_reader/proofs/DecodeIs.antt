@@ -7,7 +7,7 @@ use native.Mathlib.Omega.{arith}
 use borrow.Author.Tests.{ltb-true}
 use lib.Dec.{ltb, lit<}
 use lib.ListN.{length, take, drop}
-use Rattle.places.proofs.Below.{Below, below_none, below-cons, below-append, below-drop, below-after, each_below}
+use Rattle.places.proofs.Below.{Below, below-none, below-cons, below-append, below-drop, below-after, each-below}
 use Rattle.ion.specs.Numbers.VarUInt.{varuint, readVarUInt}
 use Rattle.ion.specs.Numbers.VarInt.{signed, varint, readVarInt}
 use Rattle.ion.specs.Numbers.Int.{readInt}
@@ -80,10 +80,10 @@ fields-is : (n : ℕ) (s l r : List ℕ) → Below 256 s → decodeFields n s �
 unfolding decodeFields varuints
 fields-is zero s l r h e =
     found-one (λ (p : List ℕ × List ℕ). FieldsIs zero s p.0 p.1) e
-    (record { bytes = refl; most = omega arith; fewer = λ q. absurd (omega arith); small = below_none 16384 (lit< tt) })
+    (record { bytes = refl; most = omega arith; fewer = λ q. absurd (omega arith); small = below-none 16384 (lit< tt) })
 fields-is (suc n) [] l r h e =
     found-one (λ (p : List ℕ × List ℕ). FieldsIs (suc n) [] p.0 p.1) e
-    (record { bytes = refl; most = omega arith; fewer = λ q. refl; small = below_none 16384 (lit< tt) })
+    (record { bytes = refl; most = omega arith; fewer = λ q. refl; small = below-none 16384 (lit< tt) })
 fields-is (suc n) (b ∷ s) l r h e =
     go (λ k m t. fields-is n (drop k (b ∷ s)) m t (below-drop 256 k (b ∷ s) h)) (readVarUInt 16383 (b ∷ s)) refl e
   where
@@ -167,31 +167,31 @@ record LeftOut (l : List ℕ) (u : Fields) : Type 0 where
   no-day : u.precision < 2 → u.day ≡ 1
   no-hour : u.precision < 3 → u.hour ≡ 0
   no-minute : u.precision < 3 → u.minute ≡ 0
-  no_second : u.precision < 4 → u.second ≡ 0
+  no-second : u.precision < 4 → u.second ≡ 0
 
 -- the fields that are there are those that are written of all six
-filled_is : (l : List ℕ) (d : ℕ) → length l ≤ 6 → isFieldCount (length l) ≡ true
+filled-is : (l : List ℕ) (d : ℕ) → length l ≤ 6 → isFieldCount (length l) ≡ true
     → let u = fieldsFrom (filled l) (precisionWith (length l)) d in
     (take (fieldCount u.precision) (fieldList u) ≡ l) × LeftOut l u
 unfolding fieldCount precisionWith filled
-filled_is [] d h e = absurd (false≢true e)
-filled_is (y ∷ []) d h e = (refl, omega arith)
-filled_is (y ∷ m ∷ []) d h e = (refl, omega arith)
-filled_is (y ∷ m ∷ k ∷ []) d h e = (refl, omega arith)
-filled_is (y ∷ m ∷ k ∷ u ∷ []) d h e = absurd (false≢true e)
-filled_is (y ∷ m ∷ k ∷ u ∷ v ∷ []) d h e = (refl, omega arith)
-filled_is (y ∷ m ∷ k ∷ u ∷ v ∷ w ∷ []) d h e = (refl, omega arith)
-filled_is (y ∷ m ∷ k ∷ u ∷ v ∷ w ∷ z ∷ l) d h e = absurd (omega arith)
+filled-is [] d h e = absurd (false≢true e)
+filled-is (y ∷ []) d h e = (refl, omega arith)
+filled-is (y ∷ m ∷ []) d h e = (refl, omega arith)
+filled-is (y ∷ m ∷ k ∷ []) d h e = (refl, omega arith)
+filled-is (y ∷ m ∷ k ∷ u ∷ []) d h e = absurd (false≢true e)
+filled-is (y ∷ m ∷ k ∷ u ∷ v ∷ []) d h e = (refl, omega arith)
+filled-is (y ∷ m ∷ k ∷ u ∷ v ∷ w ∷ []) d h e = (refl, omega arith)
+filled-is (y ∷ m ∷ k ∷ u ∷ v ∷ w ∷ z ∷ l) d h e = absurd (omega arith)
 
-first_small : Below 16384 firstValues
-first_small = each_below 16384 firstValues (lit< tt, (lit< tt, (lit< tt, (lit< tt, (lit< tt, (lit< tt, lit< tt))))))
+first-small : Below 16384 firstValues
+first-small = each-below 16384 firstValues (lit< tt, (lit< tt, (lit< tt, (lit< tt, (lit< tt, (lit< tt, lit< tt))))))
 
 filled-small : (l : List ℕ) → Below 16384 l → Below 16384 (filled l)
 unfolding filled
-filled-small l h = below-append 16384 l (drop (length l) firstValues) h (below-drop 16384 (length l) firstValues first_small)
+filled-small l h = below-append 16384 l (drop (length l) firstValues) h (below-drop 16384 (length l) firstValues first-small)
 
 fields-small : (v : List ℕ) (p d : ℕ) → Below 16384 v → Below 16384 (fieldList (fieldsFrom v p d))
-fields-small v p d h = each_below 16384 (fieldList (fieldsFrom v p d)) (h 0, (h 1, (h 2, (h 3, (h 4, (h 5, lit< tt))))))
+fields-small v p d h = each-below 16384 (fieldList (fieldsFrom v p d)) (h 0, (h 1, (h 2, (h 3, (h 4, (h 5, lit< tt))))))
 
 -- ---- so what is read is the body of parts that their bytes give back
 
@@ -203,7 +203,7 @@ module _ {s : List ℕ} {o : Offset} {a l t : List ℕ} (w : OffsetIs s o a) (p 
   body-joined : (d c : ℕ) → FractionIs t d c → decodeFraction t ≡ found (d, c) → BodyIs s (bodyWith o l d c)
   unfolding bodyFrom
   body-joined d c q e =
-      let f = filled_is l d p.most k in
+      let f = filled-is l d p.most k in
       let u = f.1 in
       let parts = ap₂ (λ (m r : List ℕ). varuints m ++ r) (sym f.0) q.bytes in
       record {
@@ -218,7 +218,7 @@ module _ {s : List ℕ} {o : Offset} {a l t : List ℕ} (w : OffsetIs s o a) (p 
               no-day = u.no-day;
               no-hour = u.no-hour;
               no-minute = u.no-minute;
-              no_second = u.no_second;
+              no-second = u.no-second;
               no-digits = λ z. no-digits-after t d c (p.fewer (u.fewer z)) e;
               few-digits = q.few;
               coefficient = q.coefficient;
@@ -226,9 +226,9 @@ module _ {s : List ℕ} {o : Offset} {a l t : List ℕ} (w : OffsetIs s o a) (p 
             };
       }
 
-pub body_is : (s : List ℕ) (x : Body) → Below 256 s → decodeBody s ≡ found x → BodyIs s x
+pub body-is : (s : List ℕ) (x : Body) → Below 256 s → decodeBody s ≡ found x → BodyIs s x
 unfolding decodeBody
-body_is s x h e = first (decodeOffset s) refl e
+body-is s x h e = first (decodeOffset s) refl e
   where
     fourth : {o : Offset} {a l t : List ℕ} → OffsetIs s o a → FieldsIs 6 a l t → isFieldCount (length l) ≡ true → Below 256 t
         → (q : Decoded (ℕ × ℕ)) → decodeFraction t ≡ q → afterFields o l q ≡ found x → BodyIs s x

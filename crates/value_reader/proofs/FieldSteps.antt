@@ -21,7 +21,7 @@ use Rattle.ion.specs.declared.offset.Offset.{Offset}
 use Rattle.places.proofs.Decides.{lt-decides, ◌and◌}
 use Rattle.value_reader.specs.Parsed.{FieldsAre}
 use Rattle.value_reader.specs.declared.decoder.FieldsRead.{FieldsRead}
-use Rattle.value_reader.proofs.DecodeBack.{field_next}
+use Rattle.value_reader.proofs.DecodeBack.{field-next}
 
 -- ---- one field a turn
 
@@ -49,29 +49,29 @@ pub record Passed (s : List ℕ) (q : Decoded (List ℕ × List ℕ)) (v : List 
 abbrev pub more : List ℕ → ℕ → ℕ → Bool
 more s k n = ltb k 6 && ltb n (length s)
 
-pub more_left : (s : List ℕ) (k n : ℕ) → more s k n ≡ true → (k < 6) × (n < length s)
-more_left s k n = (lt-decides k 6 and lt-decides n (length s)).0
+pub more-left : (s : List ℕ) (k n : ℕ) → more s k n ≡ true → (k < 6) × (n < length s)
+more-left s k n = (lt-decides k 6 and lt-decides n (length s)).0
 
-none_left : (n : ℕ) (t : List ℕ) → t ≡ [] → decodeFields n t ≡ found ([], t)
+none-left : (n : ℕ) (t : List ℕ) → t ≡ [] → decodeFields n t ≡ found ([], t)
 unfolding decodeFields
-none_left zero t e = refl
-none_left (suc n) t e = rw e
+none-left zero t e = refl
+none-left (suc n) t e = rw e
 
-pub passed_none : (s : List ℕ) (n : ℕ) → Passed s (decodeFields 6 (drop n s)) firstValues 0 n
-passed_none s n = record { most = omega arith; wide = refl; rest = refl; all = joined-none _ }
+pub passed-none : (s : List ℕ) (n : ℕ) → Passed s (decodeFields 6 (drop n s)) firstValues 0 n
+passed-none s n = record { most = omega arith; wide = refl; rest = refl; all = joined-none _ }
 
 module _ {s : List ℕ} {q : Decoded (List ℕ × List ℕ)} {v : List ℕ} {k n : ℕ} (p : Passed s q v k n) where
   turned : more s k n ≡ true
       → decodeFields (6 - k) (drop n s) ≡ fieldFrom (decodeFields (6 - (k + 1))) (drop n s) (readVarUInt 16383 (drop n s))
   turned t =
-      let h = more_left s k n t in
+      let h = more-left s k n t in
       let e : 6 - k ≡ suc (6 - (k + 1)) = omega arith in
-      rw e (field_next (6 - (k + 1)) (drop n s) (omega (arith, length-drop n s)))
+      rw e (field-next (6 - (k + 1)) (drop n s) (omega (arith, length-drop n s)))
 
   pub passed-more : (m j : ℕ) → more s k n ≡ true → readVarUInt 16383 (drop n s) ≡ uint.Value m j → Passed s q (set v k m) (k + 1) (n + j)
   passed-more m j t e =
       let f = decodeFields (6 - (k + 1)) in
-      let h = more_left s k n t in
+      let h = more-left s k n t in
       let w = p.wide in
       let l : take (k + 1) (set v k m) ≡ take k v ++ (m ∷ []) = rw (add-one k) (take-suc-set v k m (omega arith)) in
       record {
@@ -100,7 +100,7 @@ module _ {s : List ℕ} {q : Decoded (List ℕ × List ℕ)} {v : List ℕ} {k n
       go (yes h) = let e : 6 - k ≡ 0 = omega arith in rw e
       go (no h) =
           let e : ltb n (length s) ≡ false = rw (lt-ltb k 6 (omega arith)) at t in
-          none_left (6 - k) (drop n s) (drop_of_length-le s (ltb-false n (length s) e))
+          none-left (6 - k) (drop n s) (drop_of_length-le s (ltb-false n (length s) e))
 
   pub passed-all : more s k n ≡ false → FieldsAre s q (record { found = true; values = v; count = k; next = n })
   unfolding filled

@@ -3,7 +3,7 @@ use mathlib.Core.Path.{◌≡◌, refl, sym, ap, ap₂, ◌∙◌}
 use Prim.Native.Nat.{ℕ, ◌*◌, ◌/◌, ◌^◌, ◌≤◌, ◌<◌, min}
 use native.Mathlib.Nat.{mul-mod_left, mul-div_cancel}
 use native.Mathlib.Omega.{arith}
-use Rattle.ion.specs.Pair.Offset.{WithinDay, rawOffset, offset_of}
+use Rattle.ion.specs.Pair.Offset.{WithinDay, rawOffset, offsetOf}
 use Rattle.ion.specs.Calendar.Shift.{IsDateTime}
 use Rattle.ion.specs.Pair.Fraction.{scale}
 use Rattle.ion.specs.Calls.Accepted.{Valid, timeIn}
@@ -14,7 +14,7 @@ use Rattle.ion.specs.declared.Body.{Body}
 use Rattle.ion.specs.declared.offset.Offset.{Offset}
 use Rattle.ion.specs.declared.offset.Offset.TheVariants.{Unknown, Known}
 use Rattle.ion.proofs.Offsets.{raw-and-back, raw-lt}
-use Rattle.calendar.proofs.Shifts.{shifted-is, shift_back}
+use Rattle.calendar.proofs.Shifts.{shifted-is, shift-back}
 use Rattle.calendar.proofs.FirstDay.{moved-room}
 use Rattle.fraction.proofs.Capped.{scaled-low}
 use Rattle.fraction.proofs.Scales.{scale-pos}
@@ -28,7 +28,7 @@ record IsLocal (o : Offset) (u f : Fields) : Type 0 where
   precision : f.precision ≡ u.precision
   digits : f.digits ≡ u.digits
   raw : f.offset.0 < 2880
-  offset : offset_of f.offset ≡ o
+  offset : offsetOf f.offset ≡ o
   utc : utcBy o f ≡ u
 
 local-is : (o : Offset) (u : Fields) → WithinDay o → IsDateTime (timeIn u) → u.offset ≡ rawOffset 0 → 1 ≤ (localBy o u).year
@@ -52,7 +52,7 @@ local-is (Known m) u w t e y =
       digits = refl;
       raw = raw-lt (Known m) w;
       offset = raw-and-back (Known m) w;
-      utc = ap₂ (withTime u) (shift_back (timeIn u) m.0 t room) (sym e);
+      utc = ap₂ (withTime u) (shift-back (timeIn u) m.0 t room) (sym e);
     }
 
 -- ---- those of acceptable parts
@@ -96,7 +96,7 @@ module _ (x : Body) (p : Encodable x) (q : Acceptable x) where
         no-hour = λ h. ap (λ (f : Fields). f.hour) (coarse h) ∙ p.no-hour (omega (arith, l.precision));
         no-minute = λ h. ap (λ (f : Fields). f.minute) (coarse h) ∙ p.no-minute (omega (arith, l.precision));
         no-offset = λ h. ap (λ (f : Fields). f.offset.0) (coarse h);
-        no_second = λ h. l.second ∙ p.no_second (omega (arith, l.precision));
+        no-second = λ h. l.second ∙ p.no-second (omega (arith, l.precision));
         no-digits = λ h. l.digits ∙ p.no-digits (omega (arith, l.precision));
       }
 
@@ -108,5 +108,5 @@ module _ (x : Body) (p : Encodable x) (q : Acceptable x) where
       let f = localBy x.offset x.utc in
       let cancel = mul-div_cancel x.coefficient (scale-pos x.utc.digits) in
       let c : attosecondsFrom x / scale f.digits ≡ x.coefficient = rw l.digits cancel in
-      let u : utcBy (offset_of f.offset) f ≡ x.utc = rw l.offset l.utc in
+      let u : utcBy (offsetOf f.offset) f ≡ x.utc = rw l.offset l.utc in
       λ i. record { offset = l.offset i; utc = u i; coefficient = c i }

@@ -7,7 +7,7 @@ use borrow.Author.Tests.{lt-ltb, le-ltb, ltb-false, ne_eqb}
 use lib.Dec.{ltb}
 use lib.ListN.{length, take}
 use Rattle.ion.specs.Calls.Refusal.{inputEnds, firstByteRefused, bodyRefused}
-use Rattle.ion.specs.Value.ReadValue.{refusedReading, read_body, readAfter, readLength, readValue}
+use Rattle.ion.specs.Value.ReadValue.{refusedReading, readBody, readAfter, readLength, readValue}
 
 -- ---- a number that is outside its bounds, and one that is not
 
@@ -31,15 +31,15 @@ pub after-short : (k n : ℕ) (s : List ℕ) → length s < n → readAfter k n 
 unfolding readAfter
 after-short k n s h = rw (lt-ltb (length s) n h)
 
-pub after-whole : (k n : ℕ) (s : List ℕ) → n ≤ length s → readAfter k n s ≡ read_body (k + n) (take n s)
+pub after-whole : (k n : ℕ) (s : List ℕ) → n ≤ length s → readAfter k n s ≡ readBody (k + n) (take n s)
 unfolding readAfter
 after-whole k n s h = rw (le-ltb (length s) n h)
 
 -- ---- its length, after 6E
 
-pub length_none : readLength [] ≡ refusedReading inputEnds
+pub length-none : readLength [] ≡ refusedReading inputEnds
 unfolding readLength
-length_none = refl
+length-none = refl
 
 pub length-outside : (c : ℕ) (s : List ℕ) → outside 0x8e 0x92 c ≡ true → readLength (c ∷ s) ≡ refusedReading bodyRefused
 unfolding readLength
@@ -63,6 +63,6 @@ pub first-long : (d : ℕ) (s : List ℕ) → d ≡ 0x6e → readValue (d ∷ s)
 unfolding readValue
 first-long d s e = rw e
 
-pub first_short : (d : ℕ) (s : List ℕ) → outside 0x60 0x6e d ≡ false → (d ≡ 0x6e → ⊥) → readValue (d ∷ s) ≡ readAfter 1 (d - 0x60) s
+pub first-short : (d : ℕ) (s : List ℕ) → outside 0x60 0x6e d ≡ false → (d ≡ 0x6e → ⊥) → readValue (d ∷ s) ≡ readAfter 1 (d - 0x60) s
 unfolding readValue
-first_short d s e n = rw (e, ne_eqb d 0x6e n)
+first-short d s e n = rw (e, ne_eqb d 0x6e n)

@@ -7,7 +7,7 @@ use native.Mathlib.Omega.{arith}
 use lib.Dec.{lit≤}
 use lib.IntN.{neg_ℤ}
 use Rattle.places.proofs.Below.{below-cons}
-use Rattle.ion.specs.Pair.Offset.{WithinDay, rawOffset, rawOf, offset_of}
+use Rattle.ion.specs.Pair.Offset.{WithinDay, rawOffset, rawOf, offsetOf}
 use Rattle.ion.specs.Pair.Fraction.{scale}
 use Rattle.ion.specs.Calls.Accepted.{Valid, timeIn}
 use Rattle.ion.specs.Calls.Utc.{withTime, utcBy, utcFields}
@@ -17,7 +17,7 @@ use Rattle.ion.specs.declared.offset.Offset.{Offset}
 use Rattle.ion.specs.declared.offset.Offset.TheVariants.{Unknown, Known}
 use Rattle.ion.proofs.Offsets.{back-and-raw}
 use Rattle.calendar.proofs.Shifts.{shift-forth, shift-room}
-use Rattle.fraction.proofs.Scales.{units_lt}
+use Rattle.fraction.proofs.Scales.{units-lt}
 use Rattle.timestamp.proofs.Valid.{valid-time, valid-offset}
 use Rattle.timestamp.proofs.UtcForm.{negated-within, utc-is}
 use Rattle.timestamp_binary.proofs.Lengths.{fields-below}
@@ -27,7 +27,7 @@ module _ (f : Fields) (a : ℕ) (v : Valid f a) where
   -- ---- no more of the fraction than its digits
 
   coefficient-below : a / scale f.digits < 10 ^ f.digits
-  coefficient-below = units_lt f.digits a v.digits v.attoseconds
+  coefficient-below = units-lt f.digits a v.digits v.attoseconds
 
   no-coefficient : f.digits ≡ 0 → a / scale f.digits ≡ 0
   no-coefficient e = let h = rw e at coefficient-below in rw e (omega arith)
@@ -38,22 +38,22 @@ module _ (f : Fields) (a : ℕ) (v : Valid f a) where
   -- ---- the fields
 
   -- without an hour there is no known offset, and the UTC fields are the local ones
-  unknown : f.precision < 3 → offset_of f.offset ≡ Unknown
-  unknown h = ap (λ (n : ℕ). offset_of (rawOffset n)) (v.no-offset h)
+  unknown : f.precision < 3 → offsetOf f.offset ≡ Unknown
+  unknown h = ap (λ (n : ℕ). offsetOf (rawOffset n)) (v.no-offset h)
 
   coarse : f.precision < 3 → utcFields f ≡ f
   unfolding utcFields
   coarse h = ap (λ (o : Offset). utcBy o f) (unknown h)
 
-  raw-again : {o : Offset} → offset_of f.offset ≡ o → rawOf o ≡ f.offset
+  raw-again : {o : Offset} → offsetOf f.offset ≡ o → rawOf o ≡ f.offset
   raw-again e = ap rawOf (sym e) ∙ back-and-raw f.offset v.offset
 
   -- the parts give the fields back
-  pub fields-again : localBy (offset_of f.offset) (utcFields f) ≡ f
+  pub fields-again : localBy (offsetOf f.offset) (utcFields f) ≡ f
   unfolding utcFields
-  fields-again = go (offset_of f.offset) refl (valid-offset v)
+  fields-again = go (offsetOf f.offset) refl (valid-offset v)
     where
-      go : (o : Offset) → offset_of f.offset ≡ o → WithinDay o → localBy o (utcBy o f) ≡ f
+      go : (o : Offset) → offsetOf f.offset ≡ o → WithinDay o → localBy o (utcBy o f) ≡ f
       go Unknown e w = ap (withTime f (timeIn f)) (raw-again e)
       go (Known m) e w =
           let room = shift-room (timeIn f) (neg_ℤ m.0) v.from-year (negated-within m.0 w) in
@@ -76,7 +76,7 @@ module _ (f : Fields) (a : ℕ) (v : Valid f a) where
         no-day = λ h. ap (λ (x : Fields). x.day) (coarse (omega (arith, u.precision))) ∙ v.no-day (omega (arith, u.precision));
         no-hour = λ h. ap (λ (x : Fields). x.hour) (coarse (omega (arith, u.precision))) ∙ v.no-hour (omega (arith, u.precision));
         no-minute = λ h. ap (λ (x : Fields). x.minute) (coarse (omega (arith, u.precision))) ∙ v.no-minute (omega (arith, u.precision));
-        no_second = λ h. u.second ∙ v.no_second (omega (arith, u.precision));
+        no-second = λ h. u.second ∙ v.no-second (omega (arith, u.precision));
         no-digits = λ h. u.digits ∙ v.no-digits (omega (arith, u.precision));
         few-digits = omega (arith, u.digits, v.digits);
         coefficient = omega (arith, div-le_self a (scale f.digits), v.attoseconds);

@@ -1,7 +1,7 @@
 -- The parts of a body: those of a timestamp, those that their bytes give back, and those that the reader accepts. Assumes nothing.
 use Rattle.std.specs.Prelude.{◌≡◌, Bool, true, ◌⊎◌, ℕ, ◌/◌, ◌^◌, ◌≤◌, ◌<◌, leb, get_or}
 use Rattle.ion.specs.Calendar.Shift.{IsDateTime}
-use Rattle.ion.specs.Pair.Offset.{WithinDay, rawOffset, offset_of}
+use Rattle.ion.specs.Pair.Offset.{WithinDay, rawOffset, offsetOf}
 use Rattle.ion.specs.Pair.Fraction.{scale}
 use Rattle.ion.specs.Calls.Refusal.{bodyRefused}
 use Rattle.ion.specs.Calls.Accepted.{timeIn}
@@ -17,7 +17,7 @@ use Rattle.ion.specs.declared.offset.Offset.TheVariants.{Unknown, Known}
 
 -- the parts of the body of a timestamp's fields and attoseconds
 abbrev pub bodyFor : Fields → ℕ → Body
-bodyFor f a = record { offset = offset_of f.offset; utc = utcFields f; coefficient = a / scale f.digits }
+bodyFor f a = record { offset = offsetOf f.offset; utc = utcFields f; coefficient = a / scale f.digits }
 
 -- their bytes give them back: no field is too large, and what the precision or the digits leave out has its first value
 pub record Encodable (x : Body) : Type 0 where
@@ -29,7 +29,7 @@ pub record Encodable (x : Body) : Type 0 where
   pub no-day : x.utc.precision < 2 → x.utc.day ≡ 1
   pub no-hour : x.utc.precision < 3 → x.utc.hour ≡ 0
   pub no-minute : x.utc.precision < 3 → x.utc.minute ≡ 0
-  pub no_second : x.utc.precision < 4 → x.utc.second ≡ 0
+  pub no-second : x.utc.precision < 4 → x.utc.second ≡ 0
   pub no-digits : x.utc.precision < 4 → x.utc.digits ≡ 0
   pub few-digits : x.utc.digits ≤ 63
   pub coefficient : x.coefficient < 2 ^ 64

@@ -10,7 +10,7 @@ use ion::offset::{Offset, OffsetMinutes};
 use ion::{Body, Fields, IntRead, VarIntRead, VarUIntRead, offset};
 
 // The parts of a body, or that the bytes are none.
-#[derive(Drop)]
+#[derive(Clone, Copy)]
 pub(crate) enum BodyRead {
     Parts(Body),
     Nothing,
@@ -18,7 +18,7 @@ pub(crate) enum BodyRead {
 
 // Up to six fields, with the first values of those that are not there, how many there are, and the index after them; or
 // that something there is no field.
-#[derive(Drop)]
+#[derive(Clone, Copy)]
 struct FieldsRead {
     found: bool,
     values: [u32; 6],
@@ -27,7 +27,7 @@ struct FieldsRead {
 }
 
 // The digits of a fraction and its coefficient, or that the bytes are no fraction.
-#[derive(Drop)]
+#[derive(Clone, Copy)]
 enum FractionRead {
     Parts(u32, u64),
     Nothing,

@@ -1,4 +1,6 @@
 // Values of timestamps in Ion binary, read.
+#![tactic(auto)]
+
 mod decoder;
 mod reader;
 

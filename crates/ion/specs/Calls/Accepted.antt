@@ -2,8 +2,8 @@
 use Rattle.std.specs.Prelude.{ℕ, ◌%◌, ◌^◌, ◌≤◌, ◌<◌, ◌≡◌}
 use Rattle.ion.specs.Calendar.Dates.{IsDate}
 use Rattle.ion.specs.Pair.Offset.{WithinDay}
-use Rattle.ion.specs.Pair.Word.{fields_of}
-use Rattle.ion.specs.Pair.Pair.{word_in}
+use Rattle.ion.specs.Pair.Word.{fieldsOf}
+use Rattle.ion.specs.Pair.Pair.{wordIn}
 use Rattle.ion.specs.Pair.Fraction.{scale}
 use Rattle.ion.specs.Calls.Build.{precisionNumber, toOffset}
 use Rattle.ion.specs.declared.Date.{Date}
@@ -60,11 +60,11 @@ pub record Valid (f : Fields) (a : ℕ) : Type 0 where
   pub no-hour : f.precision < 3 → f.hour ≡ 0
   pub no-minute : f.precision < 3 → f.minute ≡ 0
   pub no-offset : f.precision < 3 → f.offset.0 ≡ 0
-  pub no_second : f.precision < 4 → f.second ≡ 0
+  pub no-second : f.precision < 4 → f.second ≡ 0
   pub no-digits : f.precision < 4 → f.digits ≡ 0
 
 -- what the packed check's 0 means, field by field
 pub record Accepted (s : Timestamp) : Type 0 where
-  pub fields : Valid (fields_of (word_in s)) s.attoseconds
-  pub reserved : word_in s % 2 ^ 4 ≡ 0
-  pub fits : word_in s < 2 ^ 64
+  pub fields : Valid (fieldsOf (wordIn s)) s.attoseconds
+  pub reserved : wordIn s % 2 ^ 4 ≡ 0
+  pub fits : wordIn s < 2 ^ 64

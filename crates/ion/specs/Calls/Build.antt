@@ -5,7 +5,7 @@ use Rattle.ion.specs.Calls.Answered.{answered}
 use Rattle.ion.specs.Calendar.Dates.{isDate}
 use Rattle.ion.specs.Pair.Offset.{isOffset, rawOf}
 use Rattle.ion.specs.Calendar.Shift.{shifted}
-use Rattle.ion.specs.Pair.Word.{word_of}
+use Rattle.ion.specs.Pair.Word.{wordOf}
 use Rattle.ion.specs.Pair.Pair.{packedPair, noStamp}
 use Rattle.ion.specs.declared.DateTime.{DateTime}
 use Rattle.ion.specs.declared.Fields.{Fields}
@@ -30,9 +30,9 @@ precisionNumber Second = 4
 -- ---- checks: whether each fails, and its number
 
 -- the number of the first that fails, or 0
-abbrev pub first_of : List (Bool × ℕ) → ℕ
-first_of [] = 0
-first_of (t ∷ ts) = cond t.0 t.1 (first_of ts)
+abbrev pub firstOf : List (Bool × ℕ) → ℕ
+firstOf [] = 0
+firstOf (t ∷ ts) = cond t.0 t.1 (firstOf ts)
 
 -- the offset of what is built
 abbrev pub toOffset : BuilderOffset → Offset
@@ -115,8 +115,8 @@ packedOf f t o =
       offset = rawOf o;
     }
 
-abbrev pub pair_at : BuilderFields → DateTime → Offset → Timestamp
-pair_at f t o = packedPair (word_of (packedOf f t o)) f.attoseconds
+abbrev pub pairAt : BuilderFields → DateTime → Offset → Timestamp
+pairAt f t o = packedPair (wordOf (packedOf f t o)) f.attoseconds
 
 abbrev pub refusedBuild : ℕ → Built
 refusedBuild n = record { number = n; stamp = noStamp }
@@ -131,10 +131,10 @@ buildAnswer n s = answered n (acceptedBuild s) refusedBuild
 -- ---- the whole
 
 unfoldable pub buildNumber : BuilderFields → ℕ
-buildNumber f = first_of (rangeChecks f ++ routeChecks f f.offset)
+buildNumber f = firstOf (rangeChecks f ++ routeChecks f f.offset)
 
 unfoldable pub buildPair : BuilderFields → Timestamp
-buildPair f = pair_at f (localTime f f.offset) (toOffset f.offset)
+buildPair f = pairAt f (localTime f f.offset) (toOffset f.offset)
 
 unfoldable pub buildOf : BuilderFields → Built
 buildOf f = buildAnswer (buildNumber f) (buildPair f)

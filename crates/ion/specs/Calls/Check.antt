@@ -1,10 +1,10 @@
 -- The check of a packed pair. Assumes nothing.
 use Rattle.std.specs.Prelude.{ℕ, cond, ◌&&◌, eqb, leb, ltb}
 use Rattle.ion.specs.Calls.Refusal.{digitsRefused, pairRefused}
-use Rattle.ion.specs.Pair.Offset.{offset_of}
-use Rattle.ion.specs.Pair.Word.{fields_of}
-use Rattle.ion.specs.Pair.Pair.{word_in, same_pair}
-use Rattle.ion.specs.Pair.Fraction.{cut_to}
+use Rattle.ion.specs.Pair.Offset.{offsetOf}
+use Rattle.ion.specs.Pair.Word.{fieldsOf}
+use Rattle.ion.specs.Pair.Pair.{wordIn, samePair}
+use Rattle.ion.specs.Pair.Fraction.{cutTo}
 use Rattle.ion.specs.Calls.Build.{refusedBuild, buildOf}
 use Rattle.ion.specs.declared.Fields.{Fields}
 use Rattle.ion.specs.declared.offset.RawOffset.{RawOffset}
@@ -28,7 +28,7 @@ fromLocal (offset.Known m) = FromLocalFields m
 
 -- the offset only at precision 3 and finer
 abbrev pub offsetAt : ℕ → RawOffset → BuilderOffset
-offsetAt p r = cond (leb 3 p) (fromLocal (offset_of r)) Unknown
+offsetAt p r = cond (leb 3 p) (fromLocal (offsetOf r)) Unknown
 
 -- a field from a precision on, else its first value
 abbrev pub givenAt : ℕ → ℕ → ℕ → ℕ → ℕ
@@ -36,7 +36,7 @@ givenAt from p x first = cond (leb from p) x first
 
 -- a fraction only at precision 4 with digits above 0, cut to those digits
 abbrev pub fractionAt : ℕ → ℕ → ℕ → ℕ
-fractionAt p digits a = cond (leb 4 p && ltb 0 digits) (cut_to digits a) 0
+fractionAt p digits a = cond (leb 4 p && ltb 0 digits) (cutTo digits a) 0
 
 -- the fields that the precision has, for the builder
 abbrev pub rebuilt : Fields → ℕ → BuilderFields
@@ -56,11 +56,11 @@ rebuilt f a =
 
 -- what was built, where it is the pair that came in
 abbrev pub sameAs : Timestamp → Built → Built
-sameAs s b = cond (eqb b.number 0) (cond (same_pair b.stamp s) b (refusedBuild pairRefused)) b
+sameAs s b = cond (eqb b.number 0) (cond (samePair b.stamp s) b (refusedBuild pairRefused)) b
 
 unfoldable pub checkOf : Timestamp → Built
 checkOf s =
-    let f = fields_of (word_in s) in
+    let f = fieldsOf (wordIn s) in
     cond (ltb 18 f.digits) (refusedBuild digitsRefused) (sameAs s (buildOf (rebuilt f s.attoseconds)))
 
 -- the number alone

@@ -34,6 +34,6 @@ module _ {A : Type 0} where
   contents read s = contentsFrom read (length s) s
 
   -- the bytes of each item, one after another
-  unfoldable pub in_turn : (A → List ℕ) → List A → List ℕ
-  in_turn bytes [] = []
-  in_turn bytes (x ∷ l) = bytes x ++ in_turn bytes l
+  unfoldable pub inTurn : (A → List ℕ) → List A → List ℕ
+  inTurn bytes [] = []
+  inTurn bytes (x ∷ l) = bytes x ++ inTurn bytes l

@@ -1,7 +1,7 @@
 -- Order, equality and distance of two timestamps, the first checked before the second. Assumes nothing.
 use Rattle.std.specs.Prelude.{ℕ, ◌/◌, ◌%◌, ◌^◌, Bool, false, cond, eqb, ltb, ℤ, pos, negsuc, nat_abs, ◌-ℤ◌}
-use Rattle.ion.specs.Pair.Pair.{word_in, same_pair}
-use Rattle.ion.specs.Pair.Count.{count_of}
+use Rattle.ion.specs.Pair.Pair.{wordIn, samePair}
+use Rattle.ion.specs.Pair.Count.{countOf}
 use Rattle.ion.specs.Calls.Answered.{answered, firstRefusal}
 use Rattle.ion.specs.Calls.Check.{checkNumber}
 use Rattle.ion.specs.declared.Timestamp.{Timestamp}
@@ -14,12 +14,12 @@ checkBoth s t = firstRefusal (checkNumber s) (checkNumber t)
 
 -- ---- order: -1, 0 or 1
 
-abbrev pub order_of : ℕ → ℕ → ℤ
-order_of m n = cond (ltb m n) (negsuc 0) (cond (ltb n m) (pos 1) (pos 0))
+abbrev pub orderOf : ℕ → ℕ → ℤ
+orderOf m n = cond (ltb m n) (negsuc 0) (cond (ltb n m) (pos 1) (pos 0))
 
 -- by the first numbers, then by the second
 abbrev pub orderOfPairs : ℕ → ℕ → ℕ → ℕ → ℤ
-orderOfPairs m a n b = cond (eqb m n) (order_of a b) (order_of m n)
+orderOfPairs m a n b = cond (eqb m n) (orderOf a b) (orderOf m n)
 
 abbrev pub ordered : ℤ → Ordered
 ordered z = record { number = 0; order = z }
@@ -28,11 +28,11 @@ abbrev pub refusedOrder : ℕ → Ordered
 refusedOrder n = record { number = n; order = pos 0 }
 
 unfoldable pub cmpOf : Timestamp → Timestamp → Ordered
-cmpOf s t = answered (checkBoth s t) (ordered (order_of (count_of s) (count_of t))) refusedOrder
+cmpOf s t = answered (checkBoth s t) (ordered (orderOf (countOf s) (countOf t))) refusedOrder
 
 -- by packed word, then by attoseconds
 unfoldable pub ionCmpOf : Timestamp → Timestamp → Ordered
-ionCmpOf s t = answered (checkBoth s t) (ordered (orderOfPairs (word_in s) s.attoseconds (word_in t) t.attoseconds)) refusedOrder
+ionCmpOf s t = answered (checkBoth s t) (ordered (orderOfPairs (wordIn s) s.attoseconds (wordIn t) t.attoseconds)) refusedOrder
 
 -- ---- equality
 
@@ -43,11 +43,11 @@ abbrev pub refusedCompared : ℕ → Compared
 refusedCompared n = record { number = n; equal = false }
 
 unfoldable pub eqOf : Timestamp → Timestamp → Compared
-eqOf s t = answered (checkBoth s t) (compared (eqb (count_of s) (count_of t))) refusedCompared
+eqOf s t = answered (checkBoth s t) (compared (eqb (countOf s) (countOf t))) refusedCompared
 
 -- the pairs are the same
 unfoldable pub ionEqOf : Timestamp → Timestamp → Compared
-ionEqOf s t = answered (checkBoth s t) (compared (same_pair s t)) refusedCompared
+ionEqOf s t = answered (checkBoth s t) (compared (samePair s t)) refusedCompared
 
 -- ---- distance
 
@@ -64,7 +64,7 @@ refusedDistance n = record { number = n; sign = pos 0; seconds = 0; attoseconds 
 
 -- the distance of two counts
 abbrev pub distanceOfCounts : ℕ → ℕ → Distance
-distanceOfCounts m n = distant (order_of m n) (sizeOfDifference m n)
+distanceOfCounts m n = distant (orderOf m n) (sizeOfDifference m n)
 
-unfoldable pub distance_of : Timestamp → Timestamp → Distance
-distance_of s t = answered (checkBoth s t) (distanceOfCounts (count_of s) (count_of t)) refusedDistance
+unfoldable pub distanceOf : Timestamp → Timestamp → Distance
+distanceOf s t = answered (checkBoth s t) (distanceOfCounts (countOf s) (countOf t)) refusedDistance

@@ -1,8 +1,8 @@
 -- What is read from a timestamp, after its check. Assumes nothing.
 use Rattle.std.specs.Prelude.{ℕ, ◌/◌, ◌^◌, false, pos, neg_ℤ}
-use Rattle.ion.specs.Pair.Offset.{offset_of}
-use Rattle.ion.specs.Pair.Word.{fields_of}
-use Rattle.ion.specs.Pair.Pair.{word_in}
+use Rattle.ion.specs.Pair.Offset.{offsetOf}
+use Rattle.ion.specs.Pair.Word.{fieldsOf}
+use Rattle.ion.specs.Pair.Pair.{wordIn}
 use Rattle.ion.specs.Pair.Fraction.{scale}
 use Rattle.ion.specs.Calls.Answered.{answered}
 use Rattle.ion.specs.Calls.Check.{checkNumber}
@@ -21,37 +21,37 @@ abbrev pub refusedField : ℕ → Field
 refusedField n = record { number = n; value = 0 }
 
 -- the value v of a timestamp
-unfoldable pub field_of : ℕ → Timestamp → Field
-field_of v s = answered (checkNumber s) (record { number = 0; value = v }) refusedField
+unfoldable pub fieldOf : ℕ → Timestamp → Field
+fieldOf v s = answered (checkNumber s) (record { number = 0; value = v }) refusedField
 
 abbrev pub yearOf : Timestamp → Field
-yearOf s = field_of (fields_of (word_in s)).year s
+yearOf s = fieldOf (fieldsOf (wordIn s)).year s
 
 abbrev pub monthOf : Timestamp → Field
-monthOf s = field_of (fields_of (word_in s)).month s
+monthOf s = fieldOf (fieldsOf (wordIn s)).month s
 
 abbrev pub dayOf : Timestamp → Field
-dayOf s = field_of (fields_of (word_in s)).day s
+dayOf s = fieldOf (fieldsOf (wordIn s)).day s
 
 abbrev pub hourOf : Timestamp → Field
-hourOf s = field_of (fields_of (word_in s)).hour s
+hourOf s = fieldOf (fieldsOf (wordIn s)).hour s
 
 abbrev pub minuteOf : Timestamp → Field
-minuteOf s = field_of (fields_of (word_in s)).minute s
+minuteOf s = fieldOf (fieldsOf (wordIn s)).minute s
 
-abbrev pub second_of : Timestamp → Field
-second_of s = field_of (fields_of (word_in s)).second s
+abbrev pub secondOf : Timestamp → Field
+secondOf s = fieldOf (fieldsOf (wordIn s)).second s
 
 abbrev pub precisionFieldOf : Timestamp → Field
-precisionFieldOf s = field_of (fields_of (word_in s)).precision s
+precisionFieldOf s = fieldOf (fieldsOf (wordIn s)).precision s
 
 -- the number of fraction digits
 abbrev pub digitsFieldOf : Timestamp → Field
-digitsFieldOf s = field_of (fields_of (word_in s)).digits s
+digitsFieldOf s = fieldOf (fieldsOf (wordIn s)).digits s
 
 -- the fraction in whole units of 10^k attoseconds
 abbrev pub unitsOf : ℕ → Timestamp → Field
-unitsOf k s = field_of (s.attoseconds / 10 ^ k) s
+unitsOf k s = fieldOf (s.attoseconds / 10 ^ k) s
 
 abbrev pub nanosecondsOf : Timestamp → Field
 nanosecondsOf s = unitsOf 9 s
@@ -74,7 +74,7 @@ abbrev pub refusedOffset : ℕ → OffsetField
 refusedOffset n = record { number = n; value = Unknown }
 
 unfoldable pub offsetFieldOf : Timestamp → OffsetField
-offsetFieldOf s = answered (checkNumber s) (record { number = 0; value = offset_of (fields_of (word_in s)).offset }) refusedOffset
+offsetFieldOf s = answered (checkNumber s) (record { number = 0; value = offsetOf (fieldsOf (wordIn s)).offset }) refusedOffset
 
 -- its digits as the coefficient, and minus their number as the exponent
 abbrev pub decimalIn : Fields → ℕ → Decimal
@@ -87,4 +87,4 @@ abbrev pub refusedDecimal : ℕ → DecimalField
 refusedDecimal n = record { number = n; value = zeroDecimal }
 
 unfoldable pub decimalFieldOf : Timestamp → DecimalField
-decimalFieldOf s = answered (checkNumber s) (record { number = 0; value = decimalIn (fields_of (word_in s)) s.attoseconds }) refusedDecimal
+decimalFieldOf s = answered (checkNumber s) (record { number = 0; value = decimalIn (fieldsOf (wordIn s)) s.attoseconds }) refusedDecimal

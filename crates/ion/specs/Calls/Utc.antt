@@ -1,9 +1,9 @@
 -- The UTC form: the offset is subtracted and marked unknown. Assumes nothing.
 use Rattle.std.specs.Prelude.{neg_ℤ}
-use Rattle.ion.specs.Pair.Offset.{rawOf, offset_of}
+use Rattle.ion.specs.Pair.Offset.{rawOf, offsetOf}
 use Rattle.ion.specs.Calendar.Shift.{shifted}
-use Rattle.ion.specs.Pair.Word.{word_of, fields_of}
-use Rattle.ion.specs.Pair.Pair.{word_in, packedPair}
+use Rattle.ion.specs.Pair.Word.{wordOf, fieldsOf}
+use Rattle.ion.specs.Pair.Pair.{wordIn, packedPair}
 use Rattle.ion.specs.Calls.Answered.{answered}
 use Rattle.ion.specs.Calls.Build.{acceptedBuild, refusedBuild}
 use Rattle.ion.specs.Calls.Check.{checkNumber}
@@ -37,10 +37,10 @@ utcBy Unknown f = f
 utcBy (Known m) f = withTime f (shifted (timeIn f) (neg_ℤ m.0)) (rawOf Unknown)
 
 unfoldable pub utcFields : Fields → Fields
-utcFields f = utcBy (offset_of f.offset) f
+utcFields f = utcBy (offsetOf f.offset) f
 
 abbrev pub utcPair : Timestamp → Timestamp
-utcPair s = packedPair (word_of (utcFields (fields_of (word_in s)))) s.attoseconds
+utcPair s = packedPair (wordOf (utcFields (fieldsOf (wordIn s)))) s.attoseconds
 
 -- its year may be 0 or 10000
 unfoldable pub utcOf : Timestamp → Built

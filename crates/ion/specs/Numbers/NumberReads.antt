@@ -53,5 +53,5 @@ varUIntOf l s = varUIntAnswer (readVarUInt l s)
 abbrev pub varIntOf : ℕ → List ℕ → NumberRead
 varIntOf l s = varIntAnswer (readVarInt l s)
 
-abbrev pub int_of : List ℕ → NumberRead
-int_of s = intAnswer (length s) (readInt s)
+abbrev pub intOf : List ℕ → NumberRead
+intOf s = intAnswer (length s) (readInt s)

@@ -19,8 +19,8 @@ unfoldable pub varuint : ℕ → List ℕ
 varuint m = groups (groupCount m) m
 
 -- a value of k bytes that may be l at most
-abbrev pub up_to : ℕ → ℕ → ℕ → VarUIntRead
-up_to l v k = cond (ltb l v) Bad (Value v k)
+abbrev pub upTo : ℕ → ℕ → ℕ → VarUIntRead
+upTo l v k = cond (ltb l v) Bad (Value v k)
 
 -- what a reader that has the value v of k bytes finds in the bytes that follow, of which it takes n at most: a value up to l
 -- at a marked byte, the end of the input before one, or neither
@@ -28,7 +28,7 @@ unfoldable pub scanFrom : ℕ → ℕ → ℕ → ℕ → List ℕ → VarUIntRe
 scanFrom l zero v k s = Bad
 scanFrom l (suc n) v k [] = Cut
 scanFrom l (suc n) v k (b ∷ r) =
-    cond (leb 128 b) (up_to l (v * 128 + b % 128) (k + 1)) (scanFrom l n (v * 128 + b % 128) (k + 1) r)
+    cond (leb 128 b) (upTo l (v * 128 + b % 128) (k + 1)) (scanFrom l n (v * 128 + b % 128) (k + 1) r)
 
 -- a first byte 0 with any byte after it: no shortest form begins so
 abbrev pub zeroFirst : List ℕ → Bool

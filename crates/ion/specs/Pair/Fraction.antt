@@ -8,8 +8,8 @@ abbrev pub scale : ℕ → ℕ
 scale digits = 10 ^ (18 - digits)
 
 -- attoseconds cut toward zero to a number of digits; past the eighteenth there is nothing to cut
-abbrev pub cut_to : ℕ → ℕ → ℕ
-cut_to digits a = a / scale digits * scale digits
+abbrev pub cutTo : ℕ → ℕ → ℕ
+cutTo digits a = a / scale digits * scale digits
 
 -- a second or more is kept as 10^18, which check 1 refuses
 unfoldable pub capped : ℕ → ℕ
@@ -29,7 +29,7 @@ nanoseconds n = cappedFraction (n * scale 9) 9
 
 -- cut toward zero to a number of digits
 abbrev pub nanosecondsTo : ℕ → ℕ → Fraction
-nanosecondsTo n digits = cappedFraction (cut_to digits (n * scale 9)) digits
+nanosecondsTo n digits = cappedFraction (cutTo digits (n * scale 9)) digits
 
 -- minus the exponent, or none where that is 0 or more
 abbrev pub digitsOf : ℤ → ℕ

@@ -17,8 +17,8 @@ abbrev pub rawOf : Offset → RawOffset
 rawOf Unknown = rawOffset 0
 rawOf (Known m) = rawOffset (1440 plus m.0)
 
-abbrev pub offset_of : RawOffset → Offset
-offset_of r = cond (eqb r.0 0) Unknown (Known (offsetMinutes (pos r.0 -ℤ pos 1440)))
+abbrev pub offsetOf : RawOffset → Offset
+offsetOf r = cond (eqb r.0 0) Unknown (Known (offsetMinutes (pos r.0 -ℤ pos 1440)))
 
 -- the minutes to subtract for UTC: none where the offset is unknown
 abbrev pub minutesOf : Offset → ℤ

@@ -9,8 +9,8 @@ use Rattle.ion.specs.declared.Fields.{Fields}
 abbrev pub widths : List ℕ
 widths = 14 ∷ 4 ∷ 5 ∷ 5 ∷ 6 ∷ 6 ∷ 3 ∷ 5 ∷ 12 ∷ 4 ∷ []
 
-abbrev pub values_of : Fields → List ℕ
-values_of f = f.year ∷ f.month ∷ f.day ∷ f.hour ∷ f.minute ∷ f.second ∷ f.precision ∷ f.digits ∷ f.offset.0 ∷ 0 ∷ []
+abbrev pub valuesOf : Fields → List ℕ
+valuesOf f = f.year ∷ f.month ∷ f.day ∷ f.hour ∷ f.minute ∷ f.second ∷ f.precision ∷ f.digits ∷ f.offset.0 ∷ 0 ∷ []
 
 abbrev pub fromValues : List ℕ → Fields
 fromValues l =
@@ -28,11 +28,11 @@ fromValues l =
 
 -- each field has no more bits than its place
 abbrev pub InRange : Fields → Type 0
-InRange f = Within widths (values_of f)
+InRange f = Within widths (valuesOf f)
 
 -- the word of the fields, and the fields of a word
-unfoldable pub word_of : Fields → ℕ
-word_of f = join widths (values_of f)
+unfoldable pub wordOf : Fields → ℕ
+wordOf f = join widths (valuesOf f)
 
-unfoldable pub fields_of : ℕ → Fields
-fields_of w = fromValues (parts widths w)
+unfoldable pub fieldsOf : ℕ → Fields
+fieldsOf w = fromValues (parts widths w)

@@ -3,9 +3,9 @@ use Rattle.std.specs.Prelude.{ℕ, zero, suc, ◌/◌, ◌%◌, cond, List, [], 
 use Prim.Native.Char.{code}
 use Rattle.ion.specs.Text.Ascii.{ascii}
 use Rattle.ion.specs.Numbers.Padded.{padded}
-use Rattle.ion.specs.Pair.Offset.{offset_of}
-use Rattle.ion.specs.Pair.Word.{fields_of}
-use Rattle.ion.specs.Pair.Pair.{word_in}
+use Rattle.ion.specs.Pair.Offset.{offsetOf}
+use Rattle.ion.specs.Pair.Word.{fieldsOf}
+use Rattle.ion.specs.Pair.Pair.{wordIn}
 use Rattle.ion.specs.Pair.Fraction.{scale}
 use Rattle.ion.specs.declared.Fields.{Fields}
 use Rattle.ion.specs.declared.offset.Offset.{Offset}
@@ -51,12 +51,12 @@ fieldsText f a =
     let minute = marked (code ":") f.minute in
     let second = marked (code ":") f.second in
     let fraction = fractionText f.digits a in
-    let offset = offsetText (offset_of f.offset) in
+    let offset = offsetText (offsetOf f.offset) in
     cond (eqb p 0) (year ++ ascii "T")
     (cond (eqb p 1) (year ++ month ++ ascii "T")
     (cond (eqb p 2) (year ++ month ++ day ++ ascii "T")
     (cond (eqb p 3) (year ++ month ++ day ++ hour ++ minute ++ offset)
     (year ++ month ++ day ++ hour ++ minute ++ second ++ fraction ++ offset))))
 
-unfoldable pub text_of : Timestamp → List ℕ
-text_of s = fieldsText (fields_of (word_in s)) s.attoseconds
+unfoldable pub textOf : Timestamp → List ℕ
+textOf s = fieldsText (fieldsOf (wordIn s)) s.attoseconds

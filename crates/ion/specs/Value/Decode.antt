@@ -5,7 +5,7 @@ use Rattle.ion.specs.Numbers.VarInt.{readVarInt}
 use Rattle.ion.specs.Numbers.Int.{readInt}
 use Rattle.ion.specs.Pair.Offset.{offsetMinutes, rawOf}
 use Rattle.ion.specs.Calendar.Shift.{shifted}
-use Rattle.ion.specs.Pair.Word.{word_of}
+use Rattle.ion.specs.Pair.Word.{wordOf}
 use Rattle.ion.specs.Pair.Pair.{packedPair}
 use Rattle.ion.specs.Pair.Fraction.{scale}
 use Rattle.ion.specs.Calls.Accepted.{timeIn}
@@ -132,4 +132,4 @@ localBy Unknown u = withTime u (timeIn u) (rawOf Unknown)
 localBy (Known m) u = withTime u (shifted (timeIn u) m.0) (rawOf (Known m))
 
 unfoldable pub pairFrom : Body → Timestamp
-pairFrom x = packedPair (word_of (localBy x.offset x.utc)) (x.coefficient * scale x.utc.digits)
+pairFrom x = packedPair (wordOf (localBy x.offset x.utc)) (x.coefficient * scale x.utc.digits)

@@ -3,9 +3,9 @@ use Rattle.std.specs.Prelude.{ℕ, zero, suc, ◌+◌, ◌/◌, true, cond, List
 use Rattle.ion.specs.Numbers.VarUInt.{varuint}
 use Rattle.ion.specs.Numbers.VarInt.{signed, varint}
 use Rattle.ion.specs.Numbers.Decimal.{decimalBytes}
-use Rattle.ion.specs.Pair.Offset.{offset_of}
-use Rattle.ion.specs.Pair.Word.{fields_of}
-use Rattle.ion.specs.Pair.Pair.{word_in}
+use Rattle.ion.specs.Pair.Offset.{offsetOf}
+use Rattle.ion.specs.Pair.Word.{fieldsOf}
+use Rattle.ion.specs.Pair.Pair.{wordIn}
 use Rattle.ion.specs.Pair.Fraction.{scale}
 use Rattle.ion.specs.Calls.Utc.{utcFields}
 use Rattle.ion.specs.declared.Fields.{Fields}
@@ -38,14 +38,14 @@ fractionBytes (suc d) c = decimalBytes c (negsuc d)
 unfoldable pub bodyFrom : Offset → Fields → ℕ → List ℕ
 bodyFrom o u c = offsetBytes o ++ (varuints (take (fieldCount u.precision) (fieldList u)) ++ fractionBytes u.digits c)
 
-unfoldable pub body_of : Timestamp → List ℕ
-body_of s =
-    let f = fields_of (word_in s) in
-    bodyFrom (offset_of f.offset) (utcFields f) (s.attoseconds / scale f.digits)
+unfoldable pub bodyOf : Timestamp → List ℕ
+bodyOf s =
+    let f = fieldsOf (wordIn s) in
+    bodyFrom (offsetOf f.offset) (utcFields f) (s.attoseconds / scale f.digits)
 
 -- the descriptor, and the length where it is above 13
 unfoldable pub header : ℕ → List ℕ
 header n = cond (leb n 13) ((0x60 + n) ∷ []) (0x6e ∷ varuint n)
 
-unfoldable pub value_of : Timestamp → List ℕ
-value_of s = header (length (body_of s)) ++ body_of s
+unfoldable pub valueOf : Timestamp → List ℕ
+valueOf s = header (length (bodyOf s)) ++ bodyOf s

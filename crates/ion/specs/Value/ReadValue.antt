@@ -3,7 +3,7 @@ use Rattle.std.specs.Prelude.{ℕ, ◌+◌, ◌-◌, Bool, true, false, cond, �
 use Rattle.ion.specs.Calls.Refusal.{inputEnds, firstByteRefused, bodyRefused}
 use Rattle.ion.specs.Pair.Pair.{noStamp}
 use Rattle.ion.specs.Calls.Check.{checkNumber}
-use Rattle.ion.specs.Value.Encode.{body_of}
+use Rattle.ion.specs.Value.Encode.{bodyOf}
 use Rattle.ion.specs.Value.Decode.{Decoded, found, nothing, decodeBody, pairFrom}
 use Rattle.ion.specs.declared.Timestamp.{Timestamp}
 use Rattle.ion.specs.declared.Body.{Body}
@@ -24,19 +24,19 @@ same (x ∷ s) (y ∷ t) = eqb x y && same s t
 
 -- whether the bytes b are the body of an accepted timestamp, s
 unfoldable pub isBodyOf : List ℕ → Timestamp → Bool
-isBodyOf b s = eqb (checkNumber s) 0 && same (body_of s) b
+isBodyOf b s = eqb (checkNumber s) 0 && same (bodyOf s) b
 
 -- the body b, with which n bytes are taken
 abbrev pub takenAs : ℕ → List ℕ → Decoded Body → Read
 takenAs n b (found x) = cond (isBodyOf b (pairFrom x)) (acceptedReading (pairFrom x) n) (refusedReading bodyRefused)
 takenAs n b nothing = refusedReading bodyRefused
 
-unfoldable pub read_body : ℕ → List ℕ → Read
-read_body n b = takenAs n b (decodeBody b)
+unfoldable pub readBody : ℕ → List ℕ → Read
+readBody n b = takenAs n b (decodeBody b)
 
 -- a body of n bytes after a header of k: all there, or 13
 unfoldable pub readAfter : ℕ → ℕ → List ℕ → Read
-readAfter k n s = cond (ltb (length s) n) (refusedReading inputEnds) (read_body (k + n) (take n s))
+readAfter k n s = cond (ltb (length s) n) (refusedReading inputEnds) (readBody (k + n) (take n s))
 
 -- after 6E: a byte 8E to 92, for 14 to 18
 unfoldable pub readLength : List ℕ → Read
