@@ -40,7 +40,7 @@ pub fn put_decimal(buf: &mut [u8], at: usize, coefficient: u64, exponent: i64) -
 // Writes a decimal from index `at` on.
 pub fn encode_decimal(buf: &mut [u8], at: usize, coefficient: u64, exponent: i64) -> Written
     ensures value { result ≡ wrote buf.old at (decimalBytes coefficient exponent) }
-    ensures buf_after { buf.new ≡ put buf.old at (decimalBytes coefficient exponent) }
+    ensures buffer { buf.new ≡ put buf.old at (decimalBytes coefficient exponent) }
 {
     let n = encoded_size_of(coefficient, exponent);
     let answer = output::room_for(buf.len(), at, n);

@@ -35,7 +35,7 @@ fn put_be(buf: &mut [u8], at: usize, n: usize, value: u64)
 // Writes `value` from index `at` on.
 pub fn write_u64(buf: &mut [u8], at: usize, value: u64) -> Written
     ensures value { result ≡ wrote buf.old at (int value) }
-    ensures buf_after { buf.new ≡ put buf.old at (int value) }
+    ensures buffer { buf.new ≡ put buf.old at (int value) }
 {
     let n = encoded_size_of(value);
     let answer = output::room_for(buf.len(), at, n);
@@ -59,7 +59,7 @@ pub fn put_u64(buf: &mut [u8], at: usize, value: u64) -> usize
 // The number whose shortest form is `s`, all of it.
 pub fn read_u64(s: &[u8]) -> IntRead
     ensures value { result ≡ readInt s.now }
-    ensures result_value { intAnswer (length s.now) result ≡ intOf s.now }
+    ensures numbered { intAnswer (length s.now) result ≡ intOf s.now }
 {
     if 9 < s.len() {
         return IntRead::Bad;

@@ -20,8 +20,8 @@ pub struct Parts {
 
 // The sign and the size of `value`, of the lowest i64 too.
 pub fn parts_of(value: i64) -> Parts
-    ensures negative_value { result.negative ≡ isNegative value }
-    ensures magnitude_value { result.magnitude ≡ nat_abs value }
+    ensures negative { result.negative ≡ isNegative value }
+    ensures magnitude { result.magnitude ≡ nat_abs value }
 {
     Parts {
         negative: value < 0,
@@ -50,7 +50,7 @@ fn put_signed(buf: &mut [u8], at: usize, n: usize, p: Parts)
 // Writes a sign and a magnitude as a VarInt from index `at` on.
 pub fn write_parts(buf: &mut [u8], at: usize, p: Parts) -> Written
     ensures value { result ≡ wrote buf.old at (signed p.negative p.magnitude) }
-    ensures buf_after { buf.new ≡ put buf.old at (signed p.negative p.magnitude) }
+    ensures buffer { buf.new ≡ put buf.old at (signed p.negative p.magnitude) }
 {
     let n = encoded_size_of(p.magnitude);
     let answer = output::room_for(buf.len(), at, n);
@@ -64,7 +64,7 @@ pub fn write_parts(buf: &mut [u8], at: usize, p: Parts) -> Written
 // Writes `value` as a VarInt from index `at` on.
 pub fn write_i64(buf: &mut [u8], at: usize, value: i64) -> Written
     ensures value { result ≡ wrote buf.old at (varint value) }
-    ensures buf_after { buf.new ≡ put buf.old at (varint value) }
+    ensures buffer { buf.new ≡ put buf.old at (varint value) }
 {
     write_parts(buf, at, parts_of(value))
 }
@@ -72,7 +72,7 @@ pub fn write_i64(buf: &mut [u8], at: usize, value: i64) -> Written
 // Writes negative zero, which no i64 is.
 pub fn write_negative_zero(buf: &mut [u8], at: usize) -> Written
     ensures value { result ≡ wrote buf.old at (signed true 0) }
-    ensures buf_after { buf.new ≡ put buf.old at (signed true 0) }
+    ensures buffer { buf.new ≡ put buf.old at (signed true 0) }
 {
     write_parts(
         buf,
@@ -105,7 +105,7 @@ pub fn put_i64(buf: &mut [u8], at: usize, value: i64) -> usize
 // Reads the VarInt at index `at`, in its shortest form and of a magnitude not above `limit`.
 pub fn read_i64(s: &[u8], at: usize, limit: u64) -> VarIntRead
     ensures value { result ≡ readVarInt limit (drop at s.now) }
-    ensures result_value { varIntAnswer result ≡ varIntOf limit (drop at s.now) }
+    ensures numbered { varIntAnswer result ≡ varIntOf limit (drop at s.now) }
 {
     if s.len() <= at {
         return VarIntRead::Cut;

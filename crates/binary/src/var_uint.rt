@@ -39,7 +39,7 @@ pub(crate) fn put_groups(buf: &mut [u8], at: usize, n: usize, value: u64)
 // Writes `value` as a VarUInt from index `at` on.
 pub fn write_u64(buf: &mut [u8], at: usize, value: u64) -> Written
     ensures value { result ≡ wrote buf.old at (varuint value) }
-    ensures buf_after { buf.new ≡ put buf.old at (varuint value) }
+    ensures buffer { buf.new ≡ put buf.old at (varuint value) }
 {
     let n = encoded_size_of(value);
     let answer = output::room_for(buf.len(), at, n);
@@ -125,7 +125,7 @@ fn zero_first(s: &[u8], at: usize) -> bool
 // Reads the VarUInt at index `at`, in its shortest form and not above `limit`.
 pub fn read_u64(s: &[u8], at: usize, limit: u64) -> VarUIntRead
     ensures value { result ≡ readVarUInt limit (drop at s.now) }
-    ensures result_value { varUIntAnswer result ≡ varUIntOf limit (drop at s.now) }
+    ensures numbered { varUIntAnswer result ≡ varUIntOf limit (drop at s.now) }
 {
     if zero_first(s, at) {
         return VarUIntRead::Bad;

@@ -14,7 +14,7 @@ use text::text_formatter;
 fn put_text(buf: &mut [u8], at: usize, s: Timestamp) -> usize
     requires { (at + 45 ≤ length buf.old) × Accepted s }
     ensures run { Run buf.old at (lineOf (textOf s)) buf.new result }
-    ensures upper_bound { result ≤ at + 45 }
+    ensures bound { result ≤ at + 45 }
 {
     let end = timestamp_text::text_into(buf, at, packed::unpack(s.packed_fields), s.attoseconds);
     output::copy_in(buf, end, b"\n");
@@ -25,7 +25,7 @@ fn put_text(buf: &mut [u8], at: usize, s: Timestamp) -> usize
 fn put_stop(buf: &mut [u8], at: usize, number: u32) -> usize
     requires { (at + 8 ≤ length buf.old) × (number < 100) }
     ensures run { Run buf.old at (stopLine number) buf.new result }
-    ensures upper_bound { result ≤ at + 8 }
+    ensures bound { result ≤ at + 8 }
 {
     output::copy_in(buf, at, b"stop ");
     let end = text_formatter::put_padded(buf, at + 5, number as u64, 1);
@@ -37,7 +37,7 @@ fn put_stop(buf: &mut [u8], at: usize, number: u32) -> usize
 pub fn list(input: &[u8], buf: &mut [u8]) -> usize
     requires { 15 * length input.now + 8 ≤ length buf.old }
     ensures run { Run buf.old 0 (outputOf input.now) buf.new result }
-    ensures upper_bound { result ≤ length buf.old }
+    ensures bound { result ≤ length buf.old }
 {
     if 65_536 < input.len() {
         return put_stop(buf, 0, refusal::LONG_INPUT);

@@ -19,7 +19,7 @@ pub(crate) struct Seconds {
 fn minute_number(f: Fields) -> u64
     requires { IsLocalFields f }
     ensures value { result ≡ minuteNumber (timeIn f) }
-    ensures upper_bound { result < 2 ^ 33 }
+    ensures bound { result < 2 ^ 33 }
 {
     let date = Date {
         year: f.year,

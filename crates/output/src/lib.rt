@@ -43,7 +43,7 @@ pub fn copy_in(buf: &mut [u8], at: usize, src: &[u8])
 // Writes the bytes of `src` from index `at` on.
 pub fn put_bytes(buf: &mut [u8], at: usize, src: &[u8]) -> Written
     ensures value { result ≡ wrote buf.old at src.now }
-    ensures buf_after { buf.new ≡ put buf.old at src.now }
+    ensures buffer { buf.new ≡ put buf.old at src.now }
 {
     let answer = room_for(buf.len(), at, src.len());
     if answer.number != 0 {

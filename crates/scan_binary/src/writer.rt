@@ -12,7 +12,7 @@ use timestamp_binary::MAX_TIMESTAMP_LENGTH;
 // Writes tag and guard and the bytes of a value from index `at` on.
 fn put_parts(buf: &mut [u8], at: usize, tag: u32, guard: u32, value: &[u8]) -> Written
     ensures value { result ≡ wrote buf.old at (varuint tag ++ (varuint guard ++ value.now)) }
-    ensures buf_after { buf.new ≡ put buf.old at (varuint tag ++ (varuint guard ++ value.now)) }
+    ensures buffer { buf.new ≡ put buf.old at (varuint tag ++ (varuint guard ++ value.now)) }
 {
     let numbers = var_uint::encoded_size_of(tag as u64) + var_uint::encoded_size_of(guard as u64);
     let answer = output::room_for(buf.len(), at, numbers + value.len());
@@ -28,7 +28,7 @@ fn put_parts(buf: &mut [u8], at: usize, tag: u32, guard: u32, value: &[u8]) -> W
 // Writes a scan from index `at` on.
 pub fn write_scan(buf: &mut [u8], at: usize, scan: Scan) -> Written
     ensures value { result ≡ wroteAfter (scanNumber scan) buf.old at (scanBytes scan) }
-    ensures buf_after { buf.new ≡ putAfter (scanNumber scan) buf.old at (scanBytes scan) }
+    ensures buffer { buf.new ≡ putAfter (scanNumber scan) buf.old at (scanBytes scan) }
 {
     let stamp = scan.stamp;
     let number = timestamp::check_number(stamp);

@@ -6,7 +6,7 @@ use ion::Timestamp;
 
 pub fn number_at(s: &[u8], at: usize) -> u32
     ensures value { result ≡ get_or s.now at 0 }
-    ensures upper_bound { result < 256 }
+    ensures bound { result < 256 }
 {
     if at < s.len() {
         return s[at] as u32;
@@ -16,7 +16,7 @@ pub fn number_at(s: &[u8], at: usize) -> u32
 
 pub fn count_at(s: &[u8], at: usize) -> usize
     ensures value { result ≡ get_or s.now at 0 }
-    ensures upper_bound { result < 256 }
+    ensures bound { result < 256 }
 {
     number_at(s, at) as usize
 }

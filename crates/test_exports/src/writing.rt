@@ -18,9 +18,9 @@ use text::text_formatter;
 
 #[unsafe(no_mangle)]
 pub extern "C" fn timestamp_text(w: u64, a: u64, buf: &mut [u8], written: &mut usize) -> u32
-    ensures fact { let s = packedPair w a in
+    ensures written { let s = packedPair w a in
         WrittenIs (wroteAfter (checkNumber s) buf.old 0 (textOf s)) result written.new }
-    ensures buf_after { let s = packedPair w a in
+    ensures buffer { let s = packedPair w a in
         buf.new ≡ putAfter (checkNumber s) buf.old 0 (textOf s) }
 {
     store_written(timestamp_text::format(buf, 0, pair(w, a)), written)
@@ -28,9 +28,9 @@ pub extern "C" fn timestamp_text(w: u64, a: u64, buf: &mut [u8], written: &mut u
 
 #[unsafe(no_mangle)]
 pub extern "C" fn timestamp_value(w: u64, a: u64, buf: &mut [u8], written: &mut usize) -> u32
-    ensures fact { let s = packedPair w a in
+    ensures written { let s = packedPair w a in
         WrittenIs (wroteAfter (checkNumber s) buf.old 0 (valueOf s)) result written.new }
-    ensures buf_after { let s = packedPair w a in
+    ensures buffer { let s = packedPair w a in
         buf.new ≡ putAfter (checkNumber s) buf.old 0 (valueOf s) }
 {
     let x = timestamp_binary::encode_timestamp_value(buf, 0, pair(w, a));
@@ -39,9 +39,9 @@ pub extern "C" fn timestamp_value(w: u64, a: u64, buf: &mut [u8], written: &mut 
 
 #[unsafe(no_mangle)]
 pub extern "C" fn timestamp_body(w: u64, a: u64, buf: &mut [u8], written: &mut usize) -> u32
-    ensures fact { let s = packedPair w a in
+    ensures written { let s = packedPair w a in
         WrittenIs (wroteAfter (checkNumber s) buf.old 0 (bodyOf s)) result written.new }
-    ensures buf_after { let s = packedPair w a in
+    ensures buffer { let s = packedPair w a in
         buf.new ≡ putAfter (checkNumber s) buf.old 0 (bodyOf s) }
 {
     let x = timestamp_binary::encode_timestamp(buf, 0, pair(w, a));
@@ -71,16 +71,16 @@ pub extern "C" fn timestamp_read_text(s: &[u8], word: &mut u64, attoseconds: &mu
 
 #[unsafe(no_mangle)]
 pub extern "C" fn write_var_uint(value: u64, buf: &mut [u8], written: &mut usize) -> u32
-    ensures written_is { WrittenIs (wrote buf.old 0 (varuint value)) result written.new }
-    ensures buf_after { buf.new ≡ put buf.old 0 (varuint value) }
+    ensures written { WrittenIs (wrote buf.old 0 (varuint value)) result written.new }
+    ensures buffer { buf.new ≡ put buf.old 0 (varuint value) }
 {
     store_written(var_uint::write_u64(buf, 0, value), written)
 }
 
 #[unsafe(no_mangle)]
 pub extern "C" fn write_var_int(value: i64, buf: &mut [u8], written: &mut usize) -> u32
-    ensures written_is { WrittenIs (wrote buf.old 0 (varint value)) result written.new }
-    ensures buf_after { buf.new ≡ put buf.old 0 (varint value) }
+    ensures written { WrittenIs (wrote buf.old 0 (varint value)) result written.new }
+    ensures buffer { buf.new ≡ put buf.old 0 (varint value) }
 {
     store_written(var_int::write_i64(buf, 0, value), written)
 }
@@ -92,8 +92,8 @@ pub extern "C" fn write_zero_padded(
     buf: &mut [u8],
     written: &mut usize,
 ) -> u32
-    ensures written_is { WrittenIs (wrote buf.old 0 (padded width value)) result written.new }
-    ensures buf_after { buf.new ≡ put buf.old 0 (padded width value) }
+    ensures written { WrittenIs (wrote buf.old 0 (padded width value)) result written.new }
+    ensures buffer { buf.new ≡ put buf.old 0 (padded width value) }
 {
     let x = text_formatter::write_zero_padded(buf, 0, value, width);
     store_written(x, written)

@@ -43,9 +43,9 @@ pub extern "C" fn scan_write(
     at: usize,
     written: &mut usize,
 ) -> u32
-    ensures fact { let x = scanOf tag guard (packedPair w a) in
+    ensures written { let x = scanOf tag guard (packedPair w a) in
         WrittenIs (wroteAfter (scanNumber x) buf.old at (scanBytes x)) result written.new }
-    ensures buf_after { let x = scanOf tag guard (packedPair w a) in
+    ensures buffer { let x = scanOf tag guard (packedPair w a) in
         buf.new ≡ putAfter (scanNumber x) buf.old at (scanBytes x) }
 {
     let scan = Scan {

@@ -52,7 +52,7 @@ fn padded_count(value: u64, width: usize) -> usize
 // Writes `value`, with zeros in front up to `width` digits, from index `at` on.
 pub fn write_zero_padded(buf: &mut [u8], at: usize, value: u64, width: usize) -> Written
     ensures value { result ≡ wrote buf.old at (padded width value) }
-    ensures buf_after { buf.new ≡ put buf.old at (padded width value) }
+    ensures buffer { buf.new ≡ put buf.old at (padded width value) }
 {
     let n = padded_count(value, width);
     let answer = output::room_for(buf.len(), at, n);

@@ -13,7 +13,7 @@ fn is_digit(b: u8) -> bool
 
 fn two_digits(tens: u8, units: u8) -> DigitsRead
     ensures value { result ≡ readDigits 2 (tens ∷ units ∷ []) }
-    ensures below { Below 100 result }
+    ensures bound { Below 100 result }
 {
     if !(is_digit(tens) & is_digit(units)) {
         return DigitsRead::Missing;
@@ -25,7 +25,7 @@ fn two_digits(tens: u8, units: u8) -> DigitsRead
 pub(crate) fn read_marked(s: &[u8], at: usize, mark: u8) -> DigitsRead
     requires { at < 2 ^ 63 }
     ensures value { result ≡ readMarked mark (drop at s.now) }
-    ensures below { Below 100 result }
+    ensures bound { Below 100 result }
 {
     if s.len() < at + 3 {
         return DigitsRead::Missing;

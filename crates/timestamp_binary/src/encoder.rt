@@ -109,7 +109,7 @@ fn put_body(buf: &mut [u8], at: usize, s: Timestamp) -> usize
 // Writes the body of a timestamp's value from index `at` on.
 pub fn encode_timestamp(buf: &mut [u8], at: usize, s: Timestamp) -> Written
     ensures value { result ≡ wroteAfter (checkNumber s) buf.old at (bodyOf s) }
-    ensures buf_after { buf.new ≡ putAfter (checkNumber s) buf.old at (bodyOf s) }
+    ensures buffer { buf.new ≡ putAfter (checkNumber s) buf.old at (bodyOf s) }
 {
     let number = timestamp::check_number(s);
     if number != 0 {
@@ -142,7 +142,7 @@ pub fn gather_value(bytes: &mut [u8], s: Timestamp) -> Span
 // Writes the value of a timestamp from index `at` on.
 pub fn encode_timestamp_value(buf: &mut [u8], at: usize, s: Timestamp) -> Written
     ensures value { result ≡ wroteAfter (checkNumber s) buf.old at (valueOf s) }
-    ensures buf_after { buf.new ≡ putAfter (checkNumber s) buf.old at (valueOf s) }
+    ensures buffer { buf.new ≡ putAfter (checkNumber s) buf.old at (valueOf s) }
 {
     let check = timestamp::check_number(s);
     if check != 0 {

@@ -66,7 +66,7 @@ pub fn text_into(buf: &mut [u8], at: usize, f: Fields, attoseconds: u64) -> usiz
 // Writes the text of a timestamp from index `at` on.
 pub fn format(buf: &mut [u8], at: usize, s: Timestamp) -> Written
     ensures value { result ≡ wroteAfter (checkNumber s) buf.old at (textOf s) }
-    ensures buf_after { buf.new ≡ putAfter (checkNumber s) buf.old at (textOf s) }
+    ensures buffer { buf.new ≡ putAfter (checkNumber s) buf.old at (textOf s) }
 {
     let number = timestamp::check_number(s);
     if number != 0 {
