@@ -4,6 +4,7 @@ ghost use Rattle.ion.specs.Calendar.Dates.{isLeap, isMonth, monthLength, daysInM
 
 use ion::Date;
 
+#[tactic(auto, unfolding(ion::specs::Calendar::Dates::isLeap))]
 pub fn is_leap(year: u32) -> bool
     ensures { result ≡ isLeap year }
 {
@@ -40,6 +41,7 @@ pub(crate) fn month_length(year: u32, month: u32) -> u32
 }
 
 // What a date picker is told: 0 for a month outside 1 to 12 and for a year above 10000.
+#[tactic(auto, unfolding(ion::specs::Calendar::Dates::daysInMonth))]
 pub fn days_in_month(year: u32, month: u32) -> u32
     ensures { result ≡ daysInMonth year month }
 {
