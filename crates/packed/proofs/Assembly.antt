@@ -22,6 +22,8 @@ place hi x k t hx l =
 
 ors-above : (ks xs : List ℕ) (hi : ℕ) → Within ks xs → total ks ≤ 64 → ors (hi * 2 ^ total ks) ks xs ≡ hi * 2 ^ total ks + join ks xs
 ors-above [] [] hi h l = omega arith
+ors-above [] (x ∷ xs) hi h l = elim h [ ]
+ors-above (k ∷ ks) [] hi h l = elim h [ ]
 ors-above (k ∷ ks) (x ∷ xs) hi h l =
     ap (λ (n : ℕ). ors n ks xs) (place hi x k (total ks) h.0 l)
     ∙ ors-above ks xs (hi * 2 ^ k + x) h.1 (omega arith)

@@ -21,10 +21,14 @@ regroup hi x j k t = rw (pow-add 2 k t) (omega arith)
 
 pub join-lt : (ks xs : List ℕ) → Within ks xs → join ks xs < 2 ^ total ks
 join-lt [] [] h = lit< tt
+join-lt [] (x ∷ xs) h = elim h [ ]
+join-lt (k ∷ ks) [] h = elim h [ ]
 join-lt (k ∷ ks) (x ∷ xs) h = rw (pow-add 2 k (total ks)) (digits_lt h.0 (join-lt ks xs h.1))
 
 parts-above : (ks xs : List ℕ) (hi : ℕ) → Within ks xs → parts ks (hi * 2 ^ total ks + join ks xs) ≡ xs
 parts-above [] [] hi h = refl
+parts-above [] (x ∷ xs) hi h = elim h [ ]
+parts-above (k ∷ ks) [] hi h = elim h [ ]
 parts-above (k ∷ ks) (x ∷ xs) hi h =
     ap (parts (k ∷ ks)) (regroup hi x (join ks xs) k (total ks))
     ∙ ap₂ ◌∷◌ (field-at hi x (join ks xs) (total ks) k h.0 (join-lt ks xs h.1)) (parts-above ks xs (hi * 2 ^ k + x) h.1)
@@ -41,6 +45,10 @@ join-parts (k ∷ ks) w = ap (λ (n : ℕ). fieldAt (total ks) k w * 2 ^ total k
 -- the order of words is that of the first field that differs
 pub join-before : (ks xs ys : List ℕ) → Within ks xs → Within ks ys → Before xs ys → join ks xs < join ks ys
 join-before [] [] [] hx hy b = absurd b
+join-before [] [] (y ∷ ys) hx hy b = elim hy [ ]
+join-before [] (x ∷ xs) ys hx hy b = elim hx [ ]
+join-before (k ∷ ks) [] ys hx hy b = elim hx [ ]
+join-before (k ∷ ks) (x ∷ xs) [] hx hy b = elim hy [ ]
 join-before (k ∷ ks) (x ∷ xs) (y ∷ ys) hx hy (inl l) = omega (arith, mul-le-mul_right (2 ^ total ks) l, join-lt ks xs hx.1)
 join-before (k ∷ ks) (x ∷ xs) (y ∷ ys) hx hy (inr (e, b)) =
     omega (arith, ap (λ (n : ℕ). n * 2 ^ total ks) e, join-before ks xs ys hx.1 hy.1 b)
@@ -53,6 +61,10 @@ before-cases x y j i p hi go l (no n) (no m) = absurd (let b : y < x = omega ari
 
 pub before-join : (ks xs ys : List ℕ) → Within ks xs → Within ks ys → join ks xs < join ks ys → Before xs ys
 before-join [] [] [] hx hy l = omega arith
+before-join [] [] (y ∷ ys) hx hy l = elim hy [ ]
+before-join [] (x ∷ xs) ys hx hy l = elim hx [ ]
+before-join (k ∷ ks) [] ys hx hy l = elim hx [ ]
+before-join (k ∷ ks) (x ∷ xs) [] hx hy l = elim hy [ ]
 before-join (k ∷ ks) (x ∷ xs) (y ∷ ys) hx hy l =
     before-cases x y (join ks xs) (join ks ys) (2 ^ total ks) (join-lt ks ys hy.1) (before-join ks xs ys hx.1 hy.1) l (dec_lt x y)
     (ℕ_discrete x y)

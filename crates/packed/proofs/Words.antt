@@ -36,23 +36,6 @@ unpacked w =
       offset = refl;
     }
 
--- the fields are all that the equations say
-pub unpacked-is : {w : ℕ} {f : Fields} → Unpacked w f → f ≡ fieldsOf w
-unfolding fieldsOf
-unpacked-is u =
-    λ i.
-    record {
-      year = u.year i;
-      month = u.month i;
-      day = u.day i;
-      hour = u.hour i;
-      minute = u.minute i;
-      second = u.second i;
-      precision = u.precision i;
-      digits = u.digits i;
-      offset = record { 0 = u.offset i };
-    }
-
 -- what is read is what was put in: all the fields together
 pub unpack-pack : (f : Fields) → InRange f → fieldsOf (wordOf f) ≡ f
 unfolding fieldsOf wordOf

@@ -140,6 +140,7 @@ pub fn raw_offset(w: u64) -> RawOffset
     RawOffset::new(field(w, OFFSET_SHIFT, OFFSET_BITS) as u16)
 }
 
+#[tactic(auto, unfolding(ion::specs::Pair::Word::fieldsOf))]
 pub fn unpack(w: u64) -> Fields
     ensures { result ≡ fieldsOf w }
 {
