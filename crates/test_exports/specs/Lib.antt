@@ -1,3 +1,2 @@
 -- What the contracts of the C functions cite beside the definitions of `ion`.
-pub mod Answers
 pub mod Reading

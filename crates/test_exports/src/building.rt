@@ -2,10 +2,10 @@
 ghost use Rattle.ion.specs.Calls.Check.{checkOf};
 ghost use Rattle.ion.specs.Calls.Utc.{utcOf};
 ghost use Rattle.ion.specs.Pair.Pair.{packedPair};
-ghost use Rattle.test_exports.specs.Answers.{BuiltIs};
+ghost use Rattle.test_results.specs.Answers.{BuiltIs};
 ghost use Rattle.test_field_sets.specs.FieldSets.{fieldSet, builtFrom};
 
-use crate::answers::{pair, store_built};
+use test_results::{pair, store_built};
 use test_field_sets::{FieldSet, build_from};
 
 #[unsafe(no_mangle)]

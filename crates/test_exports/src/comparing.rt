@@ -1,9 +1,9 @@
 // Order, equality and distance of two packed pairs.
 ghost use Rattle.ion.specs.Pair.Pair.{packedPair};
 ghost use Rattle.ion.specs.Calls.Order.{cmpOf, eqOf, ionCmpOf, ionEqOf, distanceOf};
-ghost use Rattle.test_exports.specs.Answers.{OrderedIs, ComparedIs, DistanceIs};
+ghost use Rattle.test_results.specs.Answers.{OrderedIs, ComparedIs, DistanceIs};
 
-use crate::answers::{pair, store_compared, store_distance, store_ordered};
+use test_results::{pair, store_compared, store_distance, store_ordered};
 
 #[unsafe(no_mangle)]
 pub extern "C" fn timestamp_cmp(w: u64, a: u64, v: u64, b: u64, order: &mut i32) -> u32

@@ -2,10 +2,7 @@
 // answer and stores the rest of it through references.
 #![tactic(auto)]
 
-mod answers;
 mod building;
 mod comparing;
 mod reading;
 mod writing;
-
-pub use answers::{pair, store_written};

@@ -2,10 +2,10 @@
 ghost use Rattle.std.specs.Prelude.{◌≡◌};
 ghost use Rattle.ion.specs.Pair.Pair.{packedPair};
 ghost use Rattle.ion.specs.Calls.Reads.{attosecondsFieldOf, decimalFieldOf, offsetFieldOf};
-ghost use Rattle.test_exports.specs.Answers.{FieldIs, AttosecondsIs, DecimalIs, OffsetIs};
+ghost use Rattle.test_results.specs.Answers.{FieldIs, AttosecondsIs, DecimalIs, OffsetIs};
 ghost use Rattle.test_exports.specs.Reading.{fieldBy};
 
-use crate::answers::{pair, store_attoseconds, store_decimal, store_field, store_offset};
+use test_results::{pair, store_attoseconds, store_decimal, store_field, store_offset};
 use ion::{Field, Timestamp};
 use test_field_sets::UNKNOWN_CODE;
 

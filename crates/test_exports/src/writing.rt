@@ -10,9 +10,9 @@ ghost use Rattle.ion.specs.Value.Encode.{bodyOf, valueOf};
 ghost use Rattle.ion.specs.Numbers.Padded.{padded};
 ghost use Rattle.ion.specs.Numbers.VarInt.{varint};
 ghost use Rattle.ion.specs.Numbers.VarUInt.{varuint};
-ghost use Rattle.test_exports.specs.Answers.{BuiltIs, WrittenIs, ReadIs};
+ghost use Rattle.test_results.specs.Answers.{BuiltIs, WrittenIs, ReadIs};
 
-use crate::answers::{pair, store_built, store_read, store_written};
+use test_results::{pair, store_built, store_read, store_written};
 use binary::{var_int, var_uint};
 use text::text_formatter;
 

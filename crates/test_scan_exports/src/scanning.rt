@@ -4,12 +4,12 @@ ghost use Rattle.ion.specs.Pair.Pair.{packedPair};
 ghost use Rattle.ion.specs.Calls.Output.{putAfter, wroteAfter};
 ghost use Rattle.scans.specs.Scan.{scanOf, scanBytes, scanNumber, readScan};
 ghost use Rattle.scans.specs.File.{checkFileOf};
-ghost use Rattle.test_exports.specs.Answers.{WrittenIs};
+ghost use Rattle.test_results.specs.Answers.{WrittenIs};
 ghost use Rattle.test_scan_exports.specs.Answers.{ScanIs, FileIs};
 
 use crate::answers::{store_file, store_scan};
 use scans::Scan;
-use test_exports::{pair, store_written};
+use test_results::{pair, store_written};
 
 #[unsafe(no_mangle)]
 pub extern "C" fn scan_read(

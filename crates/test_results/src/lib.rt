@@ -1,8 +1,10 @@
 // A pair taken in, and answers handed out: the number is returned, the rest is stored through references.
+#![tactic(auto)]
+
 ghost use Rattle.std.specs.Prelude.{◌≡◌};
 ghost use Rattle.ion.specs.Pair.Pair.{packedPair};
-ghost use Rattle.test_exports.specs.Answers.{BuiltIs, FieldIs, AttosecondsIs, DecimalIs, isKnown, OffsetIs};
-ghost use Rattle.test_exports.specs.Answers.{OrderedIs, ComparedIs, DistanceIs, WrittenIs, ReadIs};
+ghost use Rattle.test_results.specs.Answers.{BuiltIs, FieldIs, AttosecondsIs, DecimalIs, isKnown, OffsetIs};
+ghost use Rattle.test_results.specs.Answers.{OrderedIs, ComparedIs, DistanceIs, WrittenIs, ReadIs};
 
 use ion::offset::Offset;
 use ion::{
@@ -19,7 +21,7 @@ pub fn pair(w: u64, a: u64) -> Timestamp
     }
 }
 
-pub(crate) fn store_built(x: Built, word: &mut u64, attoseconds: &mut u64) -> u32
+pub fn store_built(x: Built, word: &mut u64, attoseconds: &mut u64) -> u32
     ensures { BuiltIs x result word.new attoseconds.new }
 {
     let s = x.stamp;
@@ -28,21 +30,21 @@ pub(crate) fn store_built(x: Built, word: &mut u64, attoseconds: &mut u64) -> u3
     x.number
 }
 
-pub(crate) fn store_field(x: Field, value: &mut u32) -> u32
+pub fn store_field(x: Field, value: &mut u32) -> u32
     ensures { FieldIs x result value.new }
 {
     *value = x.value;
     x.number
 }
 
-pub(crate) fn store_attoseconds(x: Attoseconds, value: &mut u64) -> u32
+pub fn store_attoseconds(x: Attoseconds, value: &mut u64) -> u32
     ensures { AttosecondsIs x result value.new }
 {
     *value = x.value;
     x.number
 }
 
-pub(crate) fn store_decimal(x: DecimalField, coefficient: &mut u64, exponent: &mut i64) -> u32
+pub fn store_decimal(x: DecimalField, coefficient: &mut u64, exponent: &mut i64) -> u32
     ensures { DecimalIs x result coefficient.new exponent.new }
 {
     let d = x.value;
@@ -61,7 +63,7 @@ fn is_known(o: Offset) -> bool
     }
 }
 
-pub(crate) fn store_offset(x: OffsetField, known: &mut bool, minutes: &mut i32) -> u32
+pub fn store_offset(x: OffsetField, known: &mut bool, minutes: &mut i32) -> u32
     ensures { OffsetIs x result known.new minutes.new }
 {
     let o = x.value;
@@ -70,7 +72,7 @@ pub(crate) fn store_offset(x: OffsetField, known: &mut bool, minutes: &mut i32) 
     x.number
 }
 
-pub(crate) fn store_ordered(x: Ordered, order: &mut i32) -> u32
+pub fn store_ordered(x: Ordered, order: &mut i32) -> u32
     ensures { OrderedIs x result order.new }
 {
     let way = x.order;
@@ -78,19 +80,14 @@ pub(crate) fn store_ordered(x: Ordered, order: &mut i32) -> u32
     x.number
 }
 
-pub(crate) fn store_compared(x: Compared, equal: &mut bool) -> u32
+pub fn store_compared(x: Compared, equal: &mut bool) -> u32
     ensures { ComparedIs x result equal.new }
 {
     *equal = x.equal;
     x.number
 }
 
-pub(crate) fn store_distance(
-    x: Distance,
-    sign: &mut i32,
-    seconds: &mut u64,
-    attoseconds: &mut u64,
-) -> u32
+pub fn store_distance(x: Distance, sign: &mut i32, seconds: &mut u64, attoseconds: &mut u64) -> u32
     ensures { DistanceIs x result sign.new seconds.new attoseconds.new }
 {
     let way = x.sign;
@@ -107,7 +104,7 @@ pub fn store_written(x: Written, written: &mut usize) -> u32
     x.number
 }
 
-pub(crate) fn store_read(x: Read, word: &mut u64, attoseconds: &mut u64, taken: &mut usize) -> u32
+pub fn store_read(x: Read, word: &mut u64, attoseconds: &mut u64, taken: &mut usize) -> u32
     ensures { ReadIs x result word.new attoseconds.new taken.new }
 {
     let s = x.stamp;

@@ -1,0 +1,2 @@
+-- What the contracts of the C functions for tests cite beside the definitions of `ion`.
+pub mod Answers
