@@ -27,6 +27,7 @@ fn is_movable(t: DateTime, m: OffsetMinutes) -> bool
     (t.year <= 10000) & calendar::is_date(date) & (t.hour < 24) & (t.minute < 60) & m.is_offset()
 }
 
+#[tactic(auto, unfolding(crate::specs::Shifting::movedBy))]
 fn move_by(t: DateTime, m: OffsetMinutes) -> Moved
     ensures { result ≡ movedBy t m.0 }
 {
