@@ -3,7 +3,7 @@ use mathlib.Core.Path.{◌≡◌, sym, ap, subst, ◌∙◌}
 use mathlib.Core.Bool.{Bool}
 use mathlib.Core.List.{List}
 use Prim.Native.Nat.{ℕ, ◌+◌, ◌-◌, ◌*◌, ◌/◌, ◌%◌, ◌^◌, ◌≤◌, ◌<◌, min}
-use native.Mathlib.Nat.{one-le-pow, div-mul-le_self, mul-mod_left, div-add-mod', div-lt_iff_lt-mul}
+use native.Mathlib.Nat.{one-le-pow, mul-mod_left, div-add-mod', div-lt_iff_lt-mul}
 use native.Mathlib.Omega.{arith}
 use lib.Dec.{T, eqb, eqb→eq, lit<}
 use lib.ListN.{length, get_or}
@@ -27,9 +27,6 @@ scale-pos d = power-pos (18 - d)
 -- digits kept and digits cut make up the second
 pub whole : (d : ℕ) → 10 ^ min d 18 * scale d ≡ 10 ^ 18
 whole d = let e : min d 18 + (18 - d) ≡ 18 = omega arith in sym (pow-add 10 (min d 18) (18 - d)) ∙ ap (λ (n : ℕ). 10 ^ n) e
-
-pub cut-le : (d a : ℕ) → cutTo d a ≤ a
-cut-le d a = div-mul-le_self a (scale d)
 
 pub cut-multiple : (d a : ℕ) → cutTo d a % scale d ≡ 0
 cut-multiple d a = mul-mod_left (a / scale d) (scale d)

@@ -42,6 +42,7 @@ fn is_below_zero(d: Decimal) -> bool
     d.negative & (d.coefficient != 0)
 }
 
+#[tactic(auto, unfolding(ion::specs::Pair::Fraction::capped))]
 pub fn from_decimal(d: Decimal) -> Fraction
     ensures { result ≡ decimal d }
 {

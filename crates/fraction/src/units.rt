@@ -6,6 +6,7 @@ use crate::powers::{NANOSECOND, cut, power, scale};
 use ion::{Fraction, MAX_ATTOSECONDS};
 
 // 10^18 for a second or more.
+#[tactic(auto, unfolding(ion::specs::Pair::Fraction::capped))]
 pub(crate) fn cap(attoseconds: u64) -> u64
     ensures { result ≡ capped attoseconds }
 {
