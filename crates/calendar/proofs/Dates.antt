@@ -12,7 +12,7 @@ use Rattle.ion.specs.Calendar.Dates.{isLeap, monthLengthOf, monthLength, yearLen
 use Rattle.ion.specs.Calendar.Dates.{isMonth, isDate}
 use Rattle.ion.specs.declared.Date.{Date}
 use Rattle.calendar.proofs.Sums.{sum-past}
-use Rattle.calendar.proofs.Years.{leapsBefore, leap-day-le, year-start}
+use Rattle.calendar.proofs.Years.{leapsBefore, leap-day-le, year-start, year-start-below}
 use Rattle.calendar.proofs.Months.{month-decides, no-month, month-least, month-from-one, month-to-twelve, month-most, months-year}
 
 -- ---- what is a date
@@ -130,3 +130,11 @@ after-year-zero t h = omega (arith, sum-past yearLength 0 t.year h)
 pub day-number-below : (t : Date) → IsDate t → t.year ≤ 10000 → dayNumber t < 3652791
 unfolding leapsBefore
 day-number-below t p h = omega (arith, in-year t p, leap-day-le (isLeap t.year), year-start t.year)
+
+-- ---- lists of laws, for the code
+
+-- a date's month is one, and its number is small
+pub ruleset dates = (month-low, month-of, in-year, year-start-below, leap-day-le)
+
+-- a day that there is, or is not
+pub ruleset days_there = (low-day, no-day)

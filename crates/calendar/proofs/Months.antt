@@ -13,7 +13,6 @@ use borrow.Author.Tests.{lt-ltb, le-ltb, ne_eqb}
 use Rattle.places.proofs.Table.{every, at}
 use Rattle.places.proofs.Decides.{Decides, le-decides, ◌and◌}
 use Rattle.ion.specs.Calendar.Dates.{leapDay, monthLengths, monthLengthOf, sumBelow, isMonth}
-use Rattle.calendar.proofs.Sums.{sum-past}
 
 -- ---- what a table says of each month
 
@@ -120,5 +119,8 @@ start-early leap m h = start-is leap m (omega arith) ∙ simp (le-ltb 2 m h, add
 pub start-late : (leap : Bool) (m : ℕ) → 2 < m → m ≤ 12 → sumBelow (monthLengthOf leap) m ≡ get_or starts m 0 + leapDay leap
 start-late leap m h k = start-is leap m k ∙ simp (lt-ltb 2 m h)
 
-pub start-below : (leap : Bool) (m : ℕ) → m ≤ 12 → sumBelow (monthLengthOf leap) m ≤ 365 + leapDay leap
-start-below leap m h = omega (arith, sum-past (monthLengthOf leap) m 13 (omega arith), months-year leap)
+-- ---- lists of laws, for the code
+
+pub ruleset lengths = (fixed-length, february)
+
+pub ruleset month_starts = (start-early, start-late)

@@ -1,12 +1,14 @@
 -- A date and time moved by z minutes counts z minutes more, and the opposite move undoes it. Assumes nothing.
-use mathlib.Core.Path.{◌≡◌, sym, ap, ◌∙◌}
+use mathlib.Core.Path.{◌≡◌, refl, sym, ap, ◌∙◌}
+use mathlib.Core.Bool.{true}
 use Prim.Native.Nat.{ℕ, zero, suc, ◌+◌, ◌*◌, ◌≤◌, ◌<◌}
 use native.Mathlib.Decide.{dec_le}
 use native.Mathlib.Omega.{arith}
 use lib.Dec.{lit<}
 use lib.IntN.{ℤ, pos, negsuc, nat_abs, neg_ℤ, ◌+ℤ◌, neg_ℤ-neg_ℤ}
+use lib.Signed.{lt_z}
 use Rattle.integers.specs.Floor.{floorDiv, ◌plus◌}
-use Rattle.integers.proofs.Parts.{up, down, apart, add-parts, floor-parts, floor-mod-lt, plus-parts, neg-parts, natAbs-parts}
+use Rattle.integers.proofs.Parts.{up, down, apart, add-parts, floor-parts, floor-mod-lt, plus-parts, neg-parts, natAbs-parts, lt-parts}
 use Rattle.ion.specs.Calendar.Dates.{dayNumber, IsDate, nextDay, prevDay, yearLength}
 use Rattle.ion.specs.Calendar.Shift.{dateOf, IsDateTime, minuteNumber, repeat, addDays, shifted}
 use Rattle.ion.specs.declared.Date.{Date}
@@ -37,6 +39,12 @@ pub add-days : (t : Date) (z : ℤ) → IsDate t
     → IsDate (addDays t z) × (down z ≤ dayNumber t → dayNumber (addDays t z) + down z ≡ dayNumber t + up z)
 add-days t (pos n) p = let h = forward t n p in (h.0, λ l. omega (arith, h.1))
 add-days t (negsuc n) p = let h = backward t (suc n) p in (h.0, λ l. omega (arith, h.1 l))
+
+-- -1 goes to the day before
+pub back : (t : Date) (z : ℤ) → nat_abs z ≤ 1 → lt_z z (pos 0) ≡ true → addDays t z ≡ prevDay t
+back t (pos n) h e = absurd (omega (arith, lt-parts (pos n) (pos 0) e))
+back t (negsuc zero) h e = refl
+back t (negsuc (suc n)) h e = absurd (omega arith)
 
 -- ---- minutes
 

@@ -71,3 +71,6 @@ year-start (suc y) = omega (arith, year-start y, leap-step y)
 pub year-start-below : (y : ℕ) → yearStart y ≤ 366 * y + 2
 unfolding leapsBefore
 year-start-below y = omega (arith, year-start y)
+
+-- for the code
+pub ruleset year_starts = (year-start)

@@ -6,6 +6,7 @@ use crate::month::{is_leap, month_length};
 use ion::Date;
 
 // The number of 1 January, in closed form: years of 365 days, and a day for each leap year before.
+#[tactic(auto, using(crate::proofs::Years::year_starts), unfolding(crate::proofs::Years::leapsBefore))]
 pub fn year_start(year: u32) -> u64
     ensures { result ≡ yearStart year }
 {
@@ -18,6 +19,7 @@ pub fn year_start(year: u32) -> u64
 const MONTH_STARTS: [u16; 13] = [0, 0, 31, 59, 90, 120, 151, 181, 212, 243, 273, 304, 334];
 
 // The days of the year before the month.
+#[tactic(auto, using(crate::proofs::Months::month_starts))]
 pub fn month_start(year: u32, month: u32) -> u64
     requires { month ≤ 12 }
     ensures { result ≡ monthStart year month }
@@ -32,6 +34,7 @@ pub fn month_start(year: u32, month: u32) -> u64
     start
 }
 
+#[tactic(auto, using(crate::proofs::Dates::dates))]
 pub fn day_number(date: Date) -> u64
     requires { IsDate date }
     ensures { result ≡ dayNumber date }
@@ -41,6 +44,7 @@ pub fn day_number(date: Date) -> u64
     start + before + (date.day as u64 - 1)
 }
 
+#[tactic(auto, using(crate::proofs::Dates::dates))]
 pub fn next_day(date: Date) -> Date
     requires { (date.year ≤ 10000) × IsDate date }
     ensures { result ≡ nextDay date }
@@ -68,6 +72,7 @@ pub fn next_day(date: Date) -> Date
 }
 
 // The day before; that of 0000-01-01 has year 0 too.
+#[tactic(auto, using(crate::proofs::Dates::dates))]
 pub fn prev_day(date: Date) -> Date
     requires { (date.year ≤ 10000) × IsDate date }
     ensures { result ≡ prevDay date }

@@ -27,6 +27,7 @@ fn is_month(month: u32) -> bool
 }
 
 // The length of a month from 1 to 12, which is never 0.
+#[tactic(auto, using(crate::proofs::Months::lengths))]
 pub(crate) fn month_length(year: u32, month: u32) -> u32
     requires { (1 ≤ month) × (month ≤ 12) }
     ensures { result ≡ monthLength year month }
@@ -52,6 +53,7 @@ pub fn days_in_month(year: u32, month: u32) -> u32
 }
 
 // Whether there is such a day. Every month has 28 days: up to there the month's length is not asked.
+#[tactic(auto, using(crate::proofs::Dates::days_there))]
 pub fn is_date(date: Date) -> bool
     ensures { result ≡ isDate date }
 {

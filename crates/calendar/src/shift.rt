@@ -31,6 +31,7 @@ pub fn minute_of_day(minutes: i32) -> u32
 }
 
 // The date a day later, the same or a day earlier.
+#[tactic(auto, using(crate::proofs::Shifts::back))]
 fn add_days(date: Date, days: i32) -> Date
     requires { (nat_abs days ≤ 1) × (date.year ≤ 10000) × IsDate date }
     ensures { result ≡ addDays date days }
