@@ -13,7 +13,7 @@ use Rattle.places.specs.Padded.{paddedPlaces}
 use Rattle.places.proofs.Laws.{place-some, place-next, place-last}
 use Rattle.places.proofs.Padded.{places-padded}
 use Rattle.ion.specs.Calls.Output.{over}
-use Rattle.output.proofs.Stores.{Storing, storing-none, storing-next, storing-all}
+use Rattle.output.proofs.Stores.{Storing, storing-next, storing-all}
 
 -- before a turn: of the bytes from index at up to index end, those are left that the width or the number still asks for
 pub record Padding (b : ℕ) (f : ℕ → ℕ) (d : List ℕ) (at end w v : ℕ) (l : List ℕ) (i q : ℕ) : Type 0 where
@@ -21,17 +21,6 @@ pub record Padding (b : ℕ) (f : ℕ → ℕ) (d : List ℕ) (at end w v : ℕ)
   pub room : end ≤ length d
   pub stored : Storing b f d at (max w (placeCount b v)) v l i q
   pub left : i ≡ at + max (w - (end - i)) (placeCount b q)
-
-pub padding-none : (b : ℕ) (f : ℕ → ℕ) (d : List ℕ) (at end w v : ℕ) → at + max w (placeCount b v) ≡ end → end ≤ length d
-    → Padding b f d at end w v d end v
-padding-none b f d at end w v e h =
-    let z : w - (end - end) ≡ w = omega arith in
-    record {
-      ends = e;
-      room = h;
-      stored = storing-none b f d at (max w (placeCount b v)) v end (omega arith);
-      left = rw (z, e);
-    }
 
 -- u bytes are stored, and n places of the number are left after the next
 number-on : (at i w u n : ℕ) → i ≡ at + max (w - u) (1 + n) → i - 1 ≡ at + max (w - (1 + u)) n
