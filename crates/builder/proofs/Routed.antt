@@ -52,12 +52,6 @@ routed-utc f Unknown e m h = absurd (false≢true e)
 routed-utc f (FromLocalFields n) e m h = absurd (false≢true e)
 routed-utc f (FromUtcFields n) e m h = ap (λ (k : OffsetMinutes). routed f (FromUtcFields k)) (sym h)
 
-pub within-utc : (o : BuilderOffset) → isUtc o ≡ true → WithinDay (toOffset o) → (m : OffsetMinutes)
-    → m ≡ offsetMinutes (minutesOf (toOffset o)) → WithinDay (offset.Known m)
-within-utc Unknown e w m h = absurd (false≢true e)
-within-utc (FromLocalFields n) e w m h = absurd (false≢true e)
-within-utc (FromUtcFields n) e w m h = subst (λ (k : OffsetMinutes). WithinDay (offset.Known k)) (sym h) w
-
 pub build-routed : (f : BuilderFields) → AllPass (rangeChecks f) → buildOf f ≡ routed f f.offset
 unfolding buildOf buildNumber buildPair
 build-routed f h = ap (λ (n : ℕ). buildAnswer n (buildPair f)) (pass-next (rangeChecks f) (routeChecks f f.offset) h)
