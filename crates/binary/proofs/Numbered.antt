@@ -28,14 +28,14 @@ module _ {A : Type 0} (f : A → NumberRead) where
 pub varuint-answer-injective : {a b : VarUIntRead} → varUIntAnswer a ≡ varUIntAnswer b → a ≡ b
 varuint-answer-injective =
     injective varUIntAnswer (λ g m n. uint.Value m n) uint.Cut uint.Bad
-    (λ a. elim a [ uint.Value v n ↦ refl | uint.Cut ↦ refl | uint.Bad ↦ refl ])
+    (λ a. elim a as (λ k. found (λ g m n. uint.Value m n) uint.Cut uint.Bad (varUIntAnswer k) ≡ k) [ uint.Value v n ↦ refl | uint.Cut ↦ refl | uint.Bad ↦ refl ])
 
 pub varint-answer-injective : {a b : VarIntRead} → varIntAnswer a ≡ varIntAnswer b → a ≡ b
 varint-answer-injective =
     injective varIntAnswer int.Value int.Cut int.Bad
-    (λ a. elim a [ int.Value g m n ↦ refl | int.Cut ↦ refl | int.Bad ↦ refl ])
+    (λ a. elim a as (λ k. found int.Value int.Cut int.Bad (varIntAnswer k) ≡ k) [ int.Value g m n ↦ refl | int.Cut ↦ refl | int.Bad ↦ refl ])
 
 pub int-answer-injective : (n : ℕ) {a b : IntRead} → intAnswer n a ≡ intAnswer n b → a ≡ b
 int-answer-injective n =
     injective (intAnswer n) (λ g m k. magnitude.Value m) magnitude.Bad magnitude.Bad
-    (λ a. elim a [ magnitude.Value v ↦ refl | magnitude.Bad ↦ refl ])
+    (λ a. elim a as (λ k. found (λ g m k. magnitude.Value m) magnitude.Bad magnitude.Bad (intAnswer n k) ≡ k) [ magnitude.Value v ↦ refl | magnitude.Bad ↦ refl ])
