@@ -124,12 +124,14 @@ unfolding varint
 read-varint l z r h = read-signed l (isNegative z) (nat_abs z) r h
 
 -- the sign and the size of a number that is passed as an i64 are its own
-pub i64-parts : {z : ℤ} {g : Bool} {m : ℕ} → SFits w64 z → (g ≡ isNegative (to_z w64 (of_z w64 z))) × (m ≡ nat_abs (to_z w64 (of_z w64 z)))
+pub i64-parts : {z : ℤ} {g : Bool} {m : ℕ} → SFits w64 z
+    → record { negative : g ≡ isNegative (to_z w64 (of_z w64 z)); magnitude : m ≡ nat_abs (to_z w64 (of_z w64 z)) }
     → (m ≡ nat_abs z) × (signed g m ≡ varint z)
 unfolding varint
 i64-parts {z} {g} {m} f e =
-    let h : (g ≡ isNegative z) × (m ≡ nat_abs z) = simp to_z-of_z at e in
-    (h.1, ap₂ signed h.0 h.1)
+    let n : g ≡ isNegative z = simp to_z-of_z at e.negative in
+    let k : m ≡ nat_abs z = simp to_z-of_z at e.magnitude in
+    (k, ap₂ signed n k)
 
 -- ---- and whatever is read is the shortest form of what is found
 
