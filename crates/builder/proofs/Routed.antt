@@ -1,10 +1,10 @@
 -- The build, by its parts: the checks 1 to 9, then those of the route. Assumes nothing.
-use mathlib.Core.Path.{◌≡◌, refl, sym, ap, subst, ◌∙◌}
+use mathlib.Core.Path.{◌≡◌, refl, sym, ap, ◌∙◌}
 use mathlib.Core.Bool.{true, false, true≢false, false≢true}
 use mathlib.Core.List.{◌++◌}
 use Prim.Native.Nat.{ℕ, ◌≤◌}
 use borrow.Author.Tests.{ne_eqb}
-use Rattle.ion.specs.Pair.Offset.{WithinDay, offsetMinutes, minutesOf}
+use Rattle.ion.specs.Pair.Offset.{offsetMinutes, minutesOf}
 use Rattle.ion.specs.Calls.Build.{firstOf, rangeChecks, routeChecks, localChecks, utcChecks, localTime, givenTime, movedTime, toOffset}
 use Rattle.ion.specs.Calls.Build.{isUtc, pairAt, refusedBuild, buildAnswer, buildNumber, buildPair, buildOf}
 use Rattle.ion.specs.declared.offset.OffsetMinutes.{OffsetMinutes}

@@ -1,5 +1,5 @@
 -- The local time of a UTC date and time is one too, and has room in the word.
-use Rattle.std.proofs.Common.{sym, ◌∙◌, ◌≤◌, arith}
+use Rattle.std.proofs.Common.{sym, ◌∙◌, arith}
 use Rattle.ion.specs.Calendar.Shift.{IsDateTime}
 use Rattle.ion.specs.declared.offset.Offset.TheVariants.{Known}
 use Rattle.calendar.proofs.Shifts.{shifted-is}
