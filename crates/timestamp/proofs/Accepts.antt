@@ -4,7 +4,8 @@ use mathlib.Core.Bool.{Bool, true, false, cond}
 use Prim.Native.Nat.{ℕ, ◌≤◌, ◌<◌}
 use native.Mathlib.Decide.{dec_le, ℕ_discrete}
 use native.Mathlib.Omega.{arith}
-use borrow.Author.Tests.{eq-eqb, ne_eqb}
+use lib.Dec.{eqb}
+use borrow.Author.Tests.{eqb-true, eq-eqb, ne_eqb}
 use Rattle.ion.specs.Calls.Refusal.{digitsRefused, pairRefused}
 use Rattle.ion.specs.Pair.Word.{fieldsOf}
 use Rattle.ion.specs.Pair.Pair.{wordIn, packedPair, samePair}
@@ -64,6 +65,10 @@ check-gives s e = go (dec_le (fieldsOf (wordIn s)).digits 18)
 -- and the pair is given back
 pub check-same : (s : Timestamp) → (checkOf s).number ≡ 0 → checkOf s ≡ acceptedBuild s
 check-same s e = check-accepts s (check-gives s e)
+
+-- to the pair that the test of its number accepts
+pub accepted_same : (s : Timestamp) → eqb (checkOf s).number 0 ≡ true → checkOf s ≡ acceptedBuild s
+accepted_same s t = check-same s (eqb-true (checkOf s).number 0 t)
 
 -- a number that is not 0 comes alone
 abbrev Alone : Built → Type 0

@@ -25,6 +25,7 @@ use Rattle.calendar.proofs.Dates.{date-is, month-of, day-of}
 use Rattle.fraction.proofs.Scales.{cut-same, cut-multiple}
 use Rattle.builder.proofs.Checks.{pass-zero, pass-append}
 use Rattle.builder.proofs.Bounds.{bounds-pass, year-decides}
+use Rattle.timestamp.proofs.Rebuilt.{check-digits, check-built}
 use Rattle.timestamp.proofs.Valid.{valid-offset}
 
 -- 5 to 7 read as 4
@@ -196,3 +197,6 @@ valid-builds v = ap₂ buildAnswer (all-number v) (all-pair v)
 -- what the check rebuilds of valid fields is built into their pair
 pub rebuilt-builds : {f : Fields} {a : ℕ} → Valid f a → buildOf (rebuilt f a) ≡ acceptedBuild (packedPair (wordOf f) a)
 rebuilt-builds v = ap buildOf (rebuilt-all v) ∙ valid-builds v
+
+-- for the code: the check by its parts, and that the fields it hands on are staged
+pub ruleset by_parts = (check-digits, check-built, rebuilt-staged)

@@ -1,6 +1,6 @@
 -- The tests of a word's fields, one after the other, decide whether they are valid, and so what the packed check answers.
 -- Assumes nothing.
-use mathlib.Core.Path.{◌≡◌}
+use mathlib.Core.Path.{◌≡◌, subst}
 use mathlib.Core.Bool.{Bool, false, ◌&&◌, ◌||◌}
 use Prim.Native.Nat.{ℕ, ◌%◌, ◌^◌, ◌≤◌, ◌<◌}
 use lib.Dec.{eqb, leb, ltb}
@@ -14,6 +14,7 @@ use Rattle.ion.specs.Calls.Accepted.{Valid, dateIn}
 use Rattle.ion.specs.declared.Date.{Date}
 use Rattle.ion.specs.declared.Fields.{Fields}
 use Rattle.ion.specs.declared.Timestamp.{Timestamp}
+use Rattle.fraction.proofs.Scales.{scale-pos}
 use Rattle.calendar.proofs.Dates.{is-date, date-is}
 use Rattle.places.proofs.Decides.{Decides, le-decides, lt-decides, eq-decides, ◌and◌, below-decides}
 use Rattle.timestamp.proofs.Accepts.{check-gives, check-zero}
@@ -113,6 +114,10 @@ valid-decides f a =
     let all = head and date-decides (dateIn f) and eq-decides (a % scale f.digits) 0 in
     (λ t. all-valid f a (all.0 t), λ v. all.1 (valid-all f a v))
 
+-- so does what equals the whole test
+pub valid-by : (f : Fields) (a : ℕ) (b : Bool) → validTest f a ≡ b → Decides b (Valid f a)
+valid-by f a b e = subst (λ (b : Bool). Decides b (Valid f a)) e (valid-decides f a)
+
 -- ---- the check
 
 -- a word of 64 bits whose low four are 0
@@ -126,3 +131,9 @@ accepted-decides s h z = (
 -- else it is refused
 pub reserved-refused : (s : Timestamp) → (wordIn s % 16 ≡ 0 → ⊥) → eqb (checkOf s).number 0 ≡ false
 reserved-refused s n = ne_eqb (checkOf s).number 0 (λ e. n (check-gives s e).reserved)
+
+-- ---- lists of laws, for the code
+
+pub ruleset scales = (scale-pos)
+
+pub ruleset decided = (accepted-decides, reserved-refused)

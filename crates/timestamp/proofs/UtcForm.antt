@@ -7,15 +7,20 @@ use Rattle.integers.proofs.Signs.{size-neg}
 use Rattle.ion.specs.Calendar.Shift.{IsDateTime}
 use Rattle.ion.specs.Pair.Offset.{WithinDay, rawOf, offsetOf}
 use Rattle.ion.specs.Pair.Word.{InRange}
+use Rattle.ion.specs.Calls.Build.{acceptedBuild, refusedBuild}
+use Rattle.ion.specs.Calls.Check.{checkOf, checkNumber}
 use Rattle.ion.specs.Calls.Accepted.{Valid, timeIn}
-use Rattle.ion.specs.Calls.Utc.{utcBy, utcFields}
+use Rattle.ion.specs.Calls.Utc.{utcBy, utcFields, utcPair, utcOf}
 use Rattle.ion.specs.declared.Fields.{Fields}
+use Rattle.ion.specs.declared.Timestamp.{Timestamp}
+use Rattle.ion.proofs.Answers.{answered-zero, answered-refused}
 use Rattle.ion.specs.declared.offset.RawOffset.{RawOffset}
 use Rattle.ion.specs.declared.offset.Offset.{Offset}
 use Rattle.ion.specs.declared.offset.Offset.TheVariants.{Unknown, Known}
 use Rattle.ion.proofs.Offsets.{back-and-raw}
 use Rattle.calendar.proofs.Shifts.{shifted-is, shifted-year}
 use Rattle.builder.proofs.Times.{fields-in-range}
+use Rattle.timestamp.proofs.Accepts.{check-gives, check-refuses}
 use Rattle.timestamp.proofs.Valid.{valid-time, valid-offset}
 
 -- the opposite of less than a day is less than a day
@@ -62,3 +67,16 @@ utc-in-range {f} v =
     let u = utc-is v in
     fields-in-range (utcFields f) u.time u.year (omega (arith, u.second, v.second)) (omega (arith, u.precision, v.precision))
     (omega (arith, u.digits, v.digits)) (omega (arith, u.offset))
+
+-- ---- the UTC form of a pair, by the number of its check
+
+pub utc-refused : (s : Timestamp) → (checkNumber s ≡ 0 → ⊥) → utcOf s ≡ checkOf s
+unfolding utcOf
+utc-refused s h = answered-refused (checkNumber s) (acceptedBuild (utcPair s)) refusedBuild h ∙ sym (check-refuses s h)
+
+pub utc-accepted : (s : Timestamp) → checkNumber s ≡ 0 → utcOf s ≡ acceptedBuild (utcPair s)
+unfolding utcOf
+utc-accepted s h = answered-zero (checkNumber s) (acceptedBuild (utcPair s)) refusedBuild h
+
+-- for the code
+pub ruleset utc_form = (utc-refused, utc-accepted, check-gives, valid-time, valid-offset, utc-in-range)

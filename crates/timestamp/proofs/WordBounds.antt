@@ -1,4 +1,5 @@
 -- The fields of a packed word are in their bounds where the tests of the whole word say so. Assumes nothing.
+use mathlib.Core.Path.{◌≡◌}
 use mathlib.Core.Bool.{Bool, ◌&&◌}
 use mathlib.Core.List.{List, [], ◌∷◌}
 use Prim.Native.Nat.{ℕ, ◌*◌, ◌^◌, ◌≤◌, ◌<◌}
@@ -8,8 +9,8 @@ use Rattle.ion.specs.Pair.Layout.{fieldAt}
 use Rattle.ion.specs.Pair.Word.{fieldsOf}
 use Rattle.packed.proofs.Limits.{Limited, limited, Fits, beyond, beyond-within, within-beyond}
 use Rattle.packed.proofs.Words.{unpacked}
-use Rattle.places.proofs.Decides.{Decides, le-decides, lt-decides, eq-decides, ◌and◌}
-use Rattle.timestamp.proofs.FieldTests.{Bounds}
+use Rattle.places.proofs.Decides.{Decides, le-decides, lt-decides, eq-decides, ◌and◌, decides-same}
+use Rattle.timestamp.proofs.FieldTests.{boundsTest, Bounds, bounds-decides}
 
 -- hour, second and digits
 abbrev pub masked : List Limited
@@ -65,3 +66,7 @@ word-decides w h =
             within-beyond 4 others w others-fits (minute, (precision, (offset, tt))),
           ),
     )
+
+-- the tests of the whole word are those of its fields
+pub word_bounds : (w : ℕ) → w < 2 ^ 64 → wordTest w ≡ boundsTest (fieldsOf w)
+word_bounds w h = decides-same (wordTest w) (boundsTest (fieldsOf w)) (word-decides w h) (bounds-decides (fieldsOf w))

@@ -53,6 +53,7 @@ fn none_beyond(w: u64, masks: u64, spares: u64, above: u64) -> bool
 }
 
 // Whether each field but the month and the day is in its bounds; the fields of a mask are tested all at once.
+#[tactic(auto, using(crate::proofs::WordBounds::word_bounds))]
 fn in_bounds(w: u64) -> bool
     ensures { result ≡ (leb 1 (fieldsOf w).year && leb (fieldsOf w).year 9999
         && leb (fieldsOf w).hour 23 && leb (fieldsOf w).minute 59 && leb (fieldsOf w).second 59
@@ -83,6 +84,7 @@ fn has_first_values(f: Fields) -> bool
 }
 
 // Whether a fraction has no more than its digits. Only one that has some and not all 18 is divided.
+#[tactic(auto, using(crate::proofs::FieldTests::scales))]
 fn is_multiple(attoseconds: u64, digits: u32) -> bool
     requires { attoseconds < 10 ^ 18 }
     ensures { result ≡ eqb (attoseconds % scale digits) 0 }
@@ -124,6 +126,7 @@ fn is_valid(w: u64, attoseconds: u64) -> bool
 }
 
 // Whether the packed check answers 0.
+#[tactic(auto, using(crate::proofs::FieldTests::decided))]
 pub fn is_accepted(s: Timestamp) -> bool
     ensures { result ≡ eqb (checkNumber s) 0 }
 {

@@ -98,6 +98,7 @@ fn same_as(s: Timestamp, b: Built) -> Built
 }
 
 // The check as it is defined, by building the pair again.
+#[tactic(auto, using(crate::proofs::CheckedFields::by_parts))]
 fn check_by_building(s: Timestamp) -> Built
     ensures { result ≡ checkOf s }
 {
@@ -111,6 +112,7 @@ fn check_by_building(s: Timestamp) -> Built
 
 // Whether the builder gives this pair: 0 and the pair, or a number and (0, 0). Only a pair that is refused is built
 // again, for its number.
+#[tactic(auto, using(crate::proofs::Accepts::accepted_same))]
 pub fn check(s: Timestamp) -> Built
     ensures { result ≡ checkOf s }
 {

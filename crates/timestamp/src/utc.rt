@@ -38,6 +38,7 @@ pub fn shifted_fields(f: Fields, m: OffsetMinutes, raw: RawOffset) -> Fields
 }
 
 // The fields in UTC: the offset is subtracted and marked unknown. An unknown offset changes nothing.
+#[tactic(auto, unfolding(ion::specs::Calls::Utc::utcFields))]
 pub fn utc_fields(f: Fields) -> Fields
     requires { IsDateTime (timeIn f) × (f.year ≤ 9999) × WithinDay (offsetOf f.offset) }
     ensures { result ≡ utcFields f }
@@ -51,6 +52,7 @@ pub fn utc_fields(f: Fields) -> Fields
 }
 
 // The same moment with an unknown offset. Its year may be 0 or 10000, and then the packed check refuses it.
+#[tactic(auto, using(crate::proofs::UtcForm::utc_form))]
 pub fn to_utc(s: Timestamp) -> Built
     ensures { result ≡ utcOf s }
 {
