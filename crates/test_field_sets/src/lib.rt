@@ -42,6 +42,7 @@ fn is_coded(x: FieldSet) -> bool
 }
 
 // The timestamp of a field set, or the number of its refusal.
+#[tactic(auto, unfolding(crate::specs::FieldSets::builtFrom))]
 pub fn build_from(x: FieldSet) -> Built
     ensures { result ≡ builtFrom x }
 {

@@ -60,6 +60,7 @@ fn set_fraction(s: HasSeconds, x: FieldSet) -> HasFractionalSeconds
 }
 
 // What is built at each stage that takes an offset: without one, from local fields, or from UTC fields.
+#[tactic(auto, unfolding(crate::specs::FieldSets::withOffsetGiven))]
 fn build_hour(s: HasHour, offset: u32, minutes: i32) -> Built
     ensures { result ≡ buildOf (withOffsetGiven offset minutes s.fields) }
 {
@@ -72,6 +73,7 @@ fn build_hour(s: HasHour, offset: u32, minutes: i32) -> Built
     s.localize_to_offset(minutes).build()
 }
 
+#[tactic(auto, unfolding(crate::specs::FieldSets::withOffsetGiven))]
 fn build_minute(s: HasMinute, offset: u32, minutes: i32) -> Built
     ensures { result ≡ buildOf (withOffsetGiven offset minutes s.fields) }
 {
@@ -84,6 +86,7 @@ fn build_minute(s: HasMinute, offset: u32, minutes: i32) -> Built
     s.localize_to_offset(minutes).build()
 }
 
+#[tactic(auto, unfolding(crate::specs::FieldSets::withOffsetGiven))]
 fn build_seconds(s: HasSeconds, offset: u32, minutes: i32) -> Built
     ensures { result ≡ buildOf (withOffsetGiven offset minutes s.fields) }
 {
@@ -96,6 +99,7 @@ fn build_seconds(s: HasSeconds, offset: u32, minutes: i32) -> Built
     s.localize_to_offset(minutes).build()
 }
 
+#[tactic(auto, unfolding(crate::specs::FieldSets::withOffsetGiven))]
 fn build_fraction(s: HasFractionalSeconds, offset: u32, minutes: i32) -> Built
     ensures { result ≡ buildOf (withOffsetGiven offset minutes s.fields) }
 {
@@ -109,6 +113,7 @@ fn build_fraction(s: HasFractionalSeconds, offset: u32, minutes: i32) -> Built
 }
 
 // A second, and perhaps a fraction of it.
+#[tactic(auto, unfolding(crate::specs::FieldSets::withFractionGiven))]
 fn build_second(s: HasMinute, x: FieldSet) -> Built
     ensures { result ≡ buildOf (secondGiven x s.fields) }
 {
@@ -123,6 +128,7 @@ fn build_second(s: HasMinute, x: FieldSet) -> Built
 }
 
 // An hour alone, or what is finer.
+#[tactic(auto, unfolding(crate::specs::FieldSets::timeGiven))]
 fn build_time(s: HasDay, x: FieldSet) -> Built
     ensures { result ≡ buildOf (timeGiven x s.fields) }
 {
@@ -139,6 +145,7 @@ fn build_time(s: HasDay, x: FieldSet) -> Built
     build_second(minute, x)
 }
 
+#[tactic(auto, unfolding(crate::specs::FieldSets::fieldsGiven))]
 pub(crate) fn build_staged(x: FieldSet) -> Built
     ensures { result ≡ buildOf (fieldsGiven x) }
 {
