@@ -1,5 +1,4 @@
--- The answers of the readers of single numbers by the table's numbers: equal answers have equal ones, and no two answers have the same.
--- Assumes nothing.
+-- The answers of the readers of single numbers by the table's numbers: no two answers have the same. Assumes nothing.
 use mathlib.Core.Path.{◌≡◌, refl, sym, ap, ◌∙◌}
 use mathlib.Core.Bool.{Bool, cond}
 use Prim.Native.Nat.{ℕ}
@@ -17,25 +16,30 @@ use Rattle.ion.specs.declared.IntRead.TheVariants as magnitude
 abbrev found : {A : Type 0} → (Bool → ℕ → ℕ → A) → A → A → NumberRead → A
 found value cut bad r = cond (eqb r.number 0) (value r.negative r.magnitude r.taken) (cond (eqb r.number inputEnds) cut bad)
 
-module _ {A : Type 0} (f : A → NumberRead) where
-  pub numbered : {r x : A} → r ≡ x → (r ≡ x) × (f r ≡ f x)
-  numbered e = (e, ap f e)
-
-  -- where every answer is found again from its numbers, no two have the same
-  injective : (value : Bool → ℕ → ℕ → A) (cut bad : A) → ((a : A) → found value cut bad (f a) ≡ a) → {a b : A} → f a ≡ f b → a ≡ b
-  injective value cut bad back {a} {b} e = sym (back a) ∙ ap (found value cut bad) e ∙ back b
+-- where every answer is found again from its numbers, no two have the same
+injective : {A : Type 0} (f : A → NumberRead) (value : Bool → ℕ → ℕ → A) (cut bad : A) → ((a : A) → found value cut bad (f a) ≡ a)
+    → {a b : A} → f a ≡ f b → a ≡ b
+injective f value cut bad back {a} {b} e = sym (back a) ∙ ap (found value cut bad) e ∙ back b
 
 pub varuint-answer-injective : {a b : VarUIntRead} → varUIntAnswer a ≡ varUIntAnswer b → a ≡ b
-varuint-answer-injective =
-    injective varUIntAnswer (λ g m n. uint.Value m n) uint.Cut uint.Bad
-    (λ a. elim a as (λ k. found (λ g m n. uint.Value m n) uint.Cut uint.Bad (varUIntAnswer k) ≡ k) [ uint.Value v n ↦ refl | uint.Cut ↦ refl | uint.Bad ↦ refl ])
+varuint-answer-injective = injective varUIntAnswer (λ g m n. uint.Value m n) uint.Cut uint.Bad back
+  where
+    back : (a : VarUIntRead) → found (λ g m n. uint.Value m n) uint.Cut uint.Bad (varUIntAnswer a) ≡ a
+    back (uint.Value v n) = refl
+    back uint.Cut = refl
+    back uint.Bad = refl
 
 pub varint-answer-injective : {a b : VarIntRead} → varIntAnswer a ≡ varIntAnswer b → a ≡ b
-varint-answer-injective =
-    injective varIntAnswer int.Value int.Cut int.Bad
-    (λ a. elim a as (λ k. found int.Value int.Cut int.Bad (varIntAnswer k) ≡ k) [ int.Value g m n ↦ refl | int.Cut ↦ refl | int.Bad ↦ refl ])
+varint-answer-injective = injective varIntAnswer int.Value int.Cut int.Bad back
+  where
+    back : (a : VarIntRead) → found int.Value int.Cut int.Bad (varIntAnswer a) ≡ a
+    back (int.Value g m n) = refl
+    back int.Cut = refl
+    back int.Bad = refl
 
 pub int-answer-injective : (n : ℕ) {a b : IntRead} → intAnswer n a ≡ intAnswer n b → a ≡ b
-int-answer-injective n =
-    injective (intAnswer n) (λ g m k. magnitude.Value m) magnitude.Bad magnitude.Bad
-    (λ a. elim a as (λ k. found (λ g m k. magnitude.Value m) magnitude.Bad magnitude.Bad (intAnswer n k) ≡ k) [ magnitude.Value v ↦ refl | magnitude.Bad ↦ refl ])
+int-answer-injective n = injective (intAnswer n) (λ g m k. magnitude.Value m) magnitude.Bad magnitude.Bad back
+  where
+    back : (a : IntRead) → found (λ g m k. magnitude.Value m) magnitude.Bad magnitude.Bad (intAnswer n a) ≡ a
+    back (magnitude.Value v) = refl
+    back magnitude.Bad = refl

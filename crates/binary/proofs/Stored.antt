@@ -1,6 +1,6 @@
--- Groups stored from the back, and a sign stored into the first of them. Assumes nothing.
+-- Groups stored from the back, a sign stored into the first of them, and room asked for what is stored. Assumes nothing.
 use mathlib.Core.Path.{◌≡◌, sym, ap, ◌∙◌}
-use mathlib.Core.Bool.{true, false}
+use mathlib.Core.Bool.{true}
 use mathlib.Core.List.{List, ◌∷◌, ◌++◌}
 use Prim.Native.Nat.{ℕ, zero, suc, ◌+◌, ◌-◌, ◌/◌, ◌%◌, ◌≤◌, ◌<◌}
 use native.Mathlib.Omega.{arith}
@@ -8,10 +8,11 @@ use lib.ListN.{length, take, drop, set, get_or, length-append}
 use lib.Seq.{length-take-le, take-set-le, get_or_at, set_at}
 use Rattle.places.specs.Places.{plain, placesOn}
 use Rattle.places.proofs.Laws.{store-front}
-use Rattle.ion.specs.Calls.Output.{over}
+use Rattle.ion.specs.Calls.Output.{over, roomFor}
 use Rattle.ion.specs.Numbers.VarUInt.{groups}
 use Rattle.ion.specs.Numbers.VarInt.{signedCount, signed}
-use Rattle.output.proofs.Stores.{over-is, Storing}
+use Rattle.ion.specs.declared.Written.{Written}
+use Rattle.output.proofs.Stores.{over-is, Storing, Asked}
 use Rattle.binary.proofs.Groups.{groups-append, length-groups}
 use Rattle.binary.proofs.VarInts.{sign-free}
 
@@ -47,6 +48,6 @@ sign-stored d x at m h e =
       rw (g, f, t.is) (set_at (take at d) t.byte r (t.byte + 64) at p),
     )
 
-pub put-unsigned : (d x : List ℕ) (at m : ℕ) → x ≡ over d at (groups (signedCount m) m) → x ≡ over d at (signed false m)
-unfolding signed
-put-unsigned d x at m e = e
+-- a writer of the bytes s that asked for room for as many
+pub asked : {d s : List ℕ} {at n : ℕ} {w : Written} → w ≡ roomFor (length d) at n → n ≡ length s → Asked d at s n w
+asked e f = record { answer = e; size = f }

@@ -56,12 +56,15 @@ pub fn put_u64(buf: &mut [u8], at: usize, value: u64) -> usize
     at + n
 }
 
+// The most bytes that a number of 64 bits has.
+const MOST_BYTES: usize = 9;
+
 // The number whose shortest form is `s`, all of it.
 pub fn read_u64(s: &[u8]) -> IntRead
     ensures value { result ≡ readInt s.now }
     ensures numbered { intAnswer (length s.now) result ≡ intOf s.now }
 {
-    if 9 < s.len() {
+    if MOST_BYTES < s.len() {
         return IntRead::Bad;
     }
     let mut v: u64 = 0;

@@ -1,5 +1,6 @@
 -- `int::read_u64` meets its contract.
-use Rattle.std.proofs.Common.{◌≡◌, sym, ap, ◌∙◌, ℕ, ◌+◌, ◌*◌, ◌≤◌, ◌<◌, List, length, drop, get_or, drop_of_length-le, drop-cons, add-one, arith}
+use Rattle.std.proofs.Common.{◌≡◌, sym, ap, ◌∙◌, ℕ, ◌+◌, ◌*◌, ◌≤◌, ◌<◌, List}
+use Rattle.std.proofs.Common.{length, drop, get_or, drop_of_length-le, drop-cons, add-one, arith}
 use lib.Dec.{lit<}
 use Rattle.places.specs.Places.{plain, valueFrom}
 use Rattle.places.proofs.Values.{value-above}
@@ -18,8 +19,8 @@ value-last : (s : List ℕ) (v i : ℕ) → length s ≤ i → valueFrom 256 pla
 unfolding valueFrom
 value-last s v i h = ap (valueFrom 256 plain v) (drop_of_length-le s h)
 
-pub returns-then-s-gt9 : goal.returns-then-s-gt9
-returns-then-s-gt9 c = let e = read-long c.args.s.now c.if-s-gt9.true in record { value = rw e; numbered = rw e }
+pub returns-then-s-gt-MOST_BYTES : goal.returns-then-s-gt-MOST_BYTES
+returns-then-s-gt-MOST_BYTES c = let e = read-long c.args.s.now c.if-s-gt-MOST_BYTES.true in record { value = rw e; numbered = rw e }
 
 pub returns-then-v-ge72057594037927936 : goal.returns-then-v-ge72057594037927936
 returns-then-v-ge72057594037927936 c =

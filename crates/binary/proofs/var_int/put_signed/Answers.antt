@@ -4,7 +4,7 @@ use Rattle.ion.specs.Calls.Output.{over}
 use Rattle.ion.specs.Numbers.VarUInt.{groups}
 use Rattle.ion.specs.Numbers.VarInt.{signedCount, signed}
 use Rattle.binary.proofs.VarInts.{signed-some}
-use Rattle.binary.proofs.Stored.{sign-stored, put-unsigned}
+use Rattle.binary.proofs.Stored.{sign-stored}
 use Rattle.binary.proofs.var_int.put_signed.Goals as goal
 
 module _ (d x : List ℕ) (at n m : ℕ) (r : (n ≡ signedCount m) × (at + n ≤ length d)) (f : x ≡ over d at (groups n m)) where
@@ -32,4 +32,5 @@ pub returns-then-p : goal.returns-then-p
 returns-then-p c = rw c.if-p.true (with-sign c.args.buf.now _ c.args.at _ c.args.p.magnitude c.requires c.put_groups.ensures).2
 
 pub returns-else-p : goal.returns-else-p
-returns-else-p c = rw c.if-p.false (put-unsigned c.args.buf.now _ c.args.at c.args.p.magnitude (stored c.args.buf.now _ c.args.at _ c.args.p.magnitude c.requires c.put_groups.ensures))
+unfolding signed
+returns-else-p c = rw c.if-p.false (stored c.args.buf.now _ c.args.at _ c.args.p.magnitude c.requires c.put_groups.ensures)

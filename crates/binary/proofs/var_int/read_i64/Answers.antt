@@ -1,5 +1,5 @@
 -- `var_int::read_i64` meets its contract.
-use Rattle.std.proofs.Common.{◌≡◌, sym, ap, ap₂, ◌∙◌, ℕ, suc, ◌+◌, ◌-◌, ◌%◌, ◌≤◌, ◌<◌, List, ◌∷◌, length, drop, get_or, cond, leb, ltb}
+use Rattle.std.proofs.Common.{◌≡◌, sym, ap, ap₂, ◌∙◌, ℕ, suc, ◌+◌, ◌-◌, ◌%◌, ◌≤◌, ◌<◌, List, length, drop, get_or, cond, leb, ltb}
 use Rattle.std.proofs.Common.{drop_of_length-le, drop-cons, add-one, arith}
 use borrow.Author.Tests.{lt-ltb, le-ltb, eq-eqb, ne_eqb}
 use Rattle.ion.specs.Numbers.VarUInt.{scanFrom}

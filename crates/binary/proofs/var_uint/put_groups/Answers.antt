@@ -8,9 +8,6 @@ use Rattle.binary.proofs.var_uint.put_groups.Goals as goal
 pub loop-i-init : goal.loop-i-init
 loop-i-init c = storing-none 128 plain _ _ _ _ _ (omega arith)
 
-pub bounds-buf-i-in-loop-i : goal.bounds-buf-i-in-loop-i
-bounds-buf-i-in-loop-i c = omega (arith, length-set {A = ℕ})
-
 pub loop-i-preserved : goal.loop-i-preserved
 loop-i-preserved c = storing-next c.loop-i.invariant c.loop-i-test.true (omega (arith, length-set {A = ℕ}))
 

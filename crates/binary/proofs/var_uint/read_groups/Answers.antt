@@ -60,4 +60,6 @@ loop-k-preserved c =
     }
 
 pub returns : goal.returns
-returns c = sym (c.loop-k.invariant.scan ∙ scan-done c.args.limit c.args.most c.loop-k.v c.loop-k.k c.args.s.now c.loop-k.i c.loop-k-test.false)
+returns c =
+    let l = c.loop-k in
+    sym (l.invariant.scan ∙ scan-done c.args.limit c.args.most l.v l.k c.args.s.now l.i c.loop-k-test.false)

@@ -19,8 +19,8 @@ returns c =
     let s = drop c.args.at c.args.s.now in
     let n : c.encoded_size_of.result - 0 ≡ groupCount c.args.limit = omega arith in
     let e =
-        c.read_groups.ensures
-        ∙ ap (λ (k : ℕ). scanFrom c.args.limit k 0 0 s) n
-        ∙ sym (read-scanned c.args.limit s (sym c.zero_first.ensures ∙ c.if-zero_first.false))
+    c.read_groups.ensures
+    ∙ ap (λ (k : ℕ). scanFrom c.args.limit k 0 0 s) n
+    ∙ sym (read-scanned c.args.limit s (sym c.zero_first.ensures ∙ c.if-zero_first.false))
     in
     record { value = e; numbered = ap varUIntAnswer e }

@@ -1,29 +1,24 @@
 -- `var_uint::write_u64` meets its contract.
-use Rattle.std.proofs.Common.{◌≡◌, sym, ◌∙◌, ℕ, List, length, arith}
-use Rattle.ion.specs.Calls.Output.{roomFor}
-use Rattle.ion.specs.Numbers.VarUInt.{groupCount, varuint}
-use Rattle.ion.specs.declared.Written.{Written}
-use Rattle.output.proofs.Stores.{Asked, asked-room, asked-refused, asked-written}
+use Rattle.std.proofs.Common.{sym, ◌∙◌, arith}
+use Rattle.output.proofs.Stores.{asked-room, asked-refused, asked-written}
+use Rattle.binary.proofs.Stored.{asked}
 use Rattle.binary.proofs.VarUInts.{count-some, groups-varuint, length-varuint}
 use Rattle.binary.proofs.var_uint.write_u64.Goals as goal
 
-asked : {d : List ℕ} {at n : ℕ} {w : Written} (v : ℕ) → n ≡ groupCount v → w ≡ roomFor (length d) at n → Asked d at (varuint v) n w
-asked v e f = record { answer = f; size = e ∙ sym (length-varuint v) }
-
 pub returns-then-answer-ne0 : goal.returns-then-answer-ne0
 returns-then-answer-ne0 c =
-    let p = asked-refused (asked c.args.value c.encoded_size_of-n.ensures c.room_for-answer.ensures) c.if-answer-ne0.true in
+    let a = asked c.room_for-answer.ensures (c.encoded_size_of-n.ensures ∙ sym (length-varuint c.args.value)) in
+    let p = asked-refused a c.if-answer-ne0.true in
     record { value = p.0; buffer = p.1 }
 
 pub put_groups-requires : goal.put_groups-requires
-put_groups-requires c = (
-  omega (arith, c.encoded_size_of-n.ensures, count-some c.args.value),
-  asked-room (asked c.args.value c.encoded_size_of-n.ensures c.room_for-answer.ensures) c.if-answer-ne0.false,
-)
+put_groups-requires c =
+    let a = asked c.room_for-answer.ensures (c.encoded_size_of-n.ensures ∙ sym (length-varuint c.args.value)) in
+    (omega (arith, count-some c.args.value), asked-room a c.if-answer-ne0.false)
 
 pub returns : goal.returns
 returns c =
     let e = c.encoded_size_of-n.ensures in
-    let a = asked c.args.value e c.room_for-answer.ensures in
+    let a = asked c.room_for-answer.ensures (e ∙ sym (length-varuint c.args.value)) in
     let p = asked-written a c.if-answer-ne0.false c.put_groups.ensures (groups-varuint c.args.value _ e) in
     record { value = p.0; buffer = p.1 }
