@@ -4,7 +4,6 @@ use mathlib.Core.Bool.{Bool, true, false, cond}
 use Prim.Native.Nat.{ℕ, ◌≤◌, ◌<◌}
 use native.Mathlib.Decide.{dec_le, ℕ_discrete}
 use native.Mathlib.Omega.{arith}
-use lib.Dec.{eqb}
 use borrow.Author.Tests.{eqb-true, eq-eqb, ne_eqb}
 use Rattle.ion.specs.Calls.Refusal.{digitsRefused, pairRefused}
 use Rattle.ion.specs.Pair.Word.{fieldsOf}
@@ -66,10 +65,6 @@ check-gives s e = go (dec_le (fieldsOf (wordIn s)).digits 18)
 pub check-same : (s : Timestamp) → (checkOf s).number ≡ 0 → checkOf s ≡ acceptedBuild s
 check-same s e = check-accepts s (check-gives s e)
 
--- to the pair that the test of its number accepts
-pub accepted_same : (s : Timestamp) → eqb (checkOf s).number 0 ≡ true → checkOf s ≡ acceptedBuild s
-accepted_same s t = check-same s (eqb-true (checkOf s).number 0 t)
-
 -- a number that is not 0 comes alone
 abbrev Alone : Built → Type 0
 Alone r = (r.number ≡ 0 → ⊥) → r ≡ refusedBuild r.number
@@ -112,3 +107,6 @@ built-checks {t} {f} g e = go (ℕ_discrete (buildNumber f) 0)
     go : Dec (buildNumber f ≡ 0) → checkOf (buildOf f).stamp ≡ buildOf f
     go (yes k) = simp (eq-eqb (buildNumber f) 0 k) (gives-checks g k)
     go (no k) = absurd (k (simp (ne_eqb (buildNumber f) 0 k) at e))
+
+-- for the code
+pub ruleset accepted_same = (check-same, eqb-true)

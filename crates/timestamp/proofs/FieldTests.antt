@@ -134,6 +134,8 @@ reserved-refused s n = ne_eqb (checkOf s).number 0 (λ e. n (check-gives s e).re
 
 -- ---- lists of laws, for the code
 
+-- a divisor is above 0
 pub ruleset scales = (scale-pos)
 
+-- the check of a pair, by its fields
 pub ruleset decided = (accepted-decides, reserved-refused)

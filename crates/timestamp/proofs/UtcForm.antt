@@ -7,13 +7,9 @@ use Rattle.integers.proofs.Signs.{size-neg}
 use Rattle.ion.specs.Calendar.Shift.{IsDateTime}
 use Rattle.ion.specs.Pair.Offset.{WithinDay, rawOf, offsetOf}
 use Rattle.ion.specs.Pair.Word.{InRange}
-use Rattle.ion.specs.Calls.Build.{acceptedBuild, refusedBuild}
-use Rattle.ion.specs.Calls.Check.{checkOf, checkNumber}
 use Rattle.ion.specs.Calls.Accepted.{Valid, timeIn}
-use Rattle.ion.specs.Calls.Utc.{utcBy, utcFields, utcPair, utcOf}
+use Rattle.ion.specs.Calls.Utc.{utcBy, utcFields}
 use Rattle.ion.specs.declared.Fields.{Fields}
-use Rattle.ion.specs.declared.Timestamp.{Timestamp}
-use Rattle.ion.proofs.Answers.{answered-zero, answered-refused}
 use Rattle.ion.specs.declared.offset.RawOffset.{RawOffset}
 use Rattle.ion.specs.declared.offset.Offset.{Offset}
 use Rattle.ion.specs.declared.offset.Offset.TheVariants.{Unknown, Known}
@@ -68,15 +64,5 @@ utc-in-range {f} v =
     fields-in-range (utcFields f) u.time u.year (omega (arith, u.second, v.second)) (omega (arith, u.precision, v.precision))
     (omega (arith, u.digits, v.digits)) (omega (arith, u.offset))
 
--- ---- the UTC form of a pair, by the number of its check
-
-pub utc-refused : (s : Timestamp) → (checkNumber s ≡ 0 → ⊥) → utcOf s ≡ checkOf s
-unfolding utcOf
-utc-refused s h = answered-refused (checkNumber s) (acceptedBuild (utcPair s)) refusedBuild h ∙ sym (check-refuses s h)
-
-pub utc-accepted : (s : Timestamp) → checkNumber s ≡ 0 → utcOf s ≡ acceptedBuild (utcPair s)
-unfolding utcOf
-utc-accepted s h = answered-zero (checkNumber s) (acceptedBuild (utcPair s)) refusedBuild h
-
 -- for the code
-pub ruleset utc_form = (utc-refused, utc-accepted, check-gives, valid-time, valid-offset, utc-in-range)
+pub ruleset utc_form = (check-refuses, check-gives, valid-time, valid-offset, utc-in-range)

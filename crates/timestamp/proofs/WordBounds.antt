@@ -68,5 +68,8 @@ word-decides w h =
     )
 
 -- the tests of the whole word are those of its fields
-pub word_bounds : (w : ℕ) → w < 2 ^ 64 → wordTest w ≡ boundsTest (fieldsOf w)
-word_bounds w h = decides-same (wordTest w) (boundsTest (fieldsOf w)) (word-decides w h) (bounds-decides (fieldsOf w))
+pub word-bounds : (w : ℕ) → w < 2 ^ 64 → wordTest w ≡ boundsTest (fieldsOf w)
+word-bounds w h = decides-same (wordTest w) (boundsTest (fieldsOf w)) (word-decides w h) (bounds-decides (fieldsOf w))
+
+-- for the code
+pub ruleset word_bounds = (word-bounds)

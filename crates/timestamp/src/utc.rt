@@ -52,7 +52,7 @@ pub fn utc_fields(f: Fields) -> Fields
 }
 
 // The same moment with an unknown offset. Its year may be 0 or 10000, and then the packed check refuses it.
-#[tactic(auto, using(crate::proofs::UtcForm::utc_form))]
+#[tactic(auto, using(crate::proofs::UtcForm::utc_form), unfolding(ion::specs::Calls::Utc::utcOf))]
 pub fn to_utc(s: Timestamp) -> Built
     ensures { result ≡ utcOf s }
 {
