@@ -42,7 +42,7 @@ fn main() {
     println!("cargo:rerun-if-changed={}", stand_ins.display());
 
     if env::var_os("CARGO_FEATURE_OURS").is_some() {
-        link_ours(&from_environment("OURS_LIBS", &repository, "target/staticlib"));
+        link_ours(&repository);
     }
 }
 
@@ -79,13 +79,15 @@ fn write_root(tree: &Path, root: &Path) {
     fs::write(root, text).unwrap();
 }
 
-fn link_ours(folder: &Path) {
-    println!("cargo:rustc-link-search=native={}", folder.display());
+/// Links the archive of each crate of calls: in the crate's own out/, or all in the folder that OURS_LIBS names.
+fn link_ours(repository: &Path) {
     for name in EXPORTS {
+        let folder = from_environment("OURS_LIBS", repository, &format!("crates/{name}/out"));
         let archive = folder.join(format!("lib{name}.a"));
         if !archive.is_file() {
-            panic!("no library at {}: make it with `rt staticlib {name}`, or set OURS_LIBS", archive.display());
+            panic!("no library at {}: make it with `rt lib` in crates/{name}, or set OURS_LIBS", archive.display());
         }
+        println!("cargo:rustc-link-search=native={}", folder.display());
         println!("cargo:rustc-link-lib=static={name}");
         println!("cargo:rerun-if-changed={}", archive.display());
     }

@@ -1,6 +1,6 @@
 #!/bin/sh
 # Runs the proved program on inputs beside its stdin file and compares what it prints with lines worked out by hand from the Ion specification.
-# Needs target/bin/stamps: rt check stamps && crates/stamps/inputs.sh
+# Needs crates/stamps/out/stamps: (cd crates/stamps && rt run < stdin) && crates/stamps/inputs.sh
 cd "$(dirname "$0")/../.." || exit 1
 passed=0 failed=0
 work=$(mktemp -d) || exit 1
@@ -11,7 +11,7 @@ judge() { # NAME, with $work/printed and $work/expected
 }
 
 try() { # NAME BYTES-AS-PRINTF EXPECTED-AS-PRINTF
-    printf "$2" | target/bin/stamps >"$work/printed"
+    printf "$2" | crates/stamps/out/stamps >"$work/printed"
     printf "$3" >"$work/expected"
     judge "$1"
 }
@@ -34,15 +34,15 @@ i=0
 while [ $i -lt 16384 ]; do printf "$year"; i=$((i + 1)); done >"$work/longest"
 i=0
 while [ $i -lt 16384 ]; do printf '2020T\n'; i=$((i + 1)); done >"$work/expected"
-target/bin/stamps <"$work/longest" >"$work/printed"
+crates/stamps/out/stamps <"$work/longest" >"$work/printed"
 judge '65,536 bytes'
 printf '\143' >>"$work/longest"
 printf 'stop 17\n' >"$work/expected"
-target/bin/stamps <"$work/longest" >"$work/printed"
+crates/stamps/out/stamps <"$work/longest" >"$work/printed"
 judge '65,537 bytes'
 
 # A value that arrives in two reads.
-(printf '\143\300'; sleep 1; printf '\017\344') | target/bin/stamps >"$work/printed"
+(printf '\143\300'; sleep 1; printf '\017\344') | crates/stamps/out/stamps >"$work/printed"
 printf '2020T\n' >"$work/expected"
 judge 'value in two reads'
 

@@ -1,6 +1,6 @@
 #!/bin/sh
 # Runs the proved program on damaged copies of its stdin file: a changed answer must cost one case, and a file that is not whole must show.
-# Needs target/bin/test_vectors: rt check test_vectors && crates/test_vectors/inputs.sh
+# Needs crates/test_vectors/out/test_vectors: (cd crates/test_vectors && rt run < stdin) && crates/test_vectors/inputs.sh
 cd "$(dirname "$0")/../.." || exit 1
 file=crates/test_vectors/stdin printed=crates/test_vectors/stdout
 passed=0 failed=0
@@ -8,7 +8,7 @@ work=$(mktemp -d) || exit 1
 trap 'rm -rf "$work"' EXIT
 
 judge() { # NAME, with $work/damaged and $work/expected
-    target/bin/test_vectors <"$work/damaged" >"$work/printed"
+    crates/test_vectors/out/test_vectors <"$work/damaged" >"$work/printed"
     if cmp -s "$work/printed" "$work/expected"; then passed=$((passed + 1)); else failed=$((failed + 1)); echo "test_vectors: $1 prints something else"; fi
 }
 

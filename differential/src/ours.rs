@@ -1,5 +1,5 @@
 //! The proved library: the exported calls of its crates `test_calendar_exports`, `test_exports` and `test_scan_exports`,
-//! each made an archive by `rt staticlib` and linked under the feature `ours`.
+//! each made an archive by `rt lib` and linked under the feature `ours`.
 //!
 //! Every call returns the scope's number, but for `days_in_month`, which refuses nothing and returns its answer.
 //! Everything else that a call answers comes back through references, which a refusal sets to 0; a byte slice is a
