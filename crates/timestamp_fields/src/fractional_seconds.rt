@@ -5,6 +5,7 @@ ghost use Rattle.ion.specs.Calls.Reads.{attosecondsFieldOf, unitsOf, nanoseconds
 use ion::{Attoseconds, Decimal, DecimalField, Field, Timestamp};
 use timestamp::check_number;
 
+#[tactic(auto, unfolding(ion::specs::Calls::Reads::attosecondsFieldOf))]
 pub fn attoseconds(s: Timestamp) -> Attoseconds
     ensures { result ≡ attosecondsFieldOf s }
 {
@@ -22,6 +23,7 @@ pub fn attoseconds(s: Timestamp) -> Attoseconds
 }
 
 // Whole units of the last of a number of digits; beside the number of a refusal there are 0 attoseconds, and so 0 units.
+#[tactic(auto, using(crate::proofs::Cuts::fit), unfolding(ion::specs::Calls::Reads::fieldOf, ion::specs::Calls::Reads::attosecondsFieldOf))]
 fn units(s: Timestamp, digits: u64) -> Field
     requires { digits ≤ 9 }
     ensures { result ≡ unitsOf (18 - digits) s }
@@ -53,6 +55,7 @@ pub fn milliseconds(s: Timestamp) -> Field
 }
 
 // The fraction's digits as the coefficient, and minus their number as the exponent.
+#[tactic(auto, using(crate::proofs::Cuts::fit), unfolding(ion::specs::Calls::Reads::decimalFieldOf, ion::specs::Pair::Word::fieldsOf))]
 pub fn fractional_seconds_as_decimal(s: Timestamp) -> DecimalField
     ensures { result ≡ decimalFieldOf s }
 {

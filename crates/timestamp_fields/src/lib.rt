@@ -1,5 +1,5 @@
 // What a timestamp holds, after its check: the fields of the packed word and the offset; the fraction is a module of its own.
-#![tactic(auto)]
+#![tactic(auto, unfolding(ion::specs::Pair::Word::fieldsOf))]
 
 mod fractional_seconds;
 
@@ -15,6 +15,7 @@ use ion::{Field, OffsetField, Timestamp};
 use timestamp::check_number;
 
 // A value of the timestamp, or 0 beside the number of a refusal.
+#[tactic(auto, unfolding(ion::specs::Calls::Reads::fieldOf))]
 fn field(s: Timestamp, value: u32) -> Field
     ensures { result ≡ fieldOf value s }
 {
@@ -86,6 +87,7 @@ pub fn fractional_seconds_scale(s: Timestamp) -> Field
 // ---- the offset from UTC
 
 // Unknown beside the number of a refusal.
+#[tactic(auto, unfolding(ion::specs::Calls::Reads::offsetFieldOf, ion::specs::Pair::Word::fieldsOf))]
 pub fn offset(s: Timestamp) -> OffsetField
     ensures { result ≡ offsetFieldOf s }
 {
