@@ -19,8 +19,10 @@ use Rattle.ion.specs.Text.Format.{marked, fractionText, clockText, minutesText, 
 use Rattle.ion.specs.declared.Fields.{Fields}
 use Rattle.ion.specs.declared.offset.Offset.{Offset}
 use Rattle.ion.specs.declared.offset.Offset.TheVariants.{Unknown, Known}
-use Rattle.text.proofs.Digits.{length-exact}
-use Rattle.fraction.proofs.Scales.{units-lt}
+use Rattle.ion.proofs.Offsets.{back-within}
+use Rattle.output.proofs.Runs.{run-none, run-two}
+use Rattle.text.proofs.Digits.{length-exact, count-most}
+use Rattle.fraction.proofs.Scales.{scale-pos, units-lt}
 use Rattle.timestamp.proofs.Valid.{valid-in-range, valid-offset}
 use Rattle.timestamp_text.specs.TextParts.{toMonth, toDay, toHour, toMinute, toSecond, toFraction, fractionLength, textLength}
 
@@ -87,19 +89,24 @@ module _ (f : Fields) (y : f.year ≤ 9999) (r : InRange f) where
   pub length-year : length (padded 4 f.year) ≡ 4
   length-year = length-exact 4 f.year (lit≤ tt) (omega arith)
 
-  length-month : length (toMonth f) ≡ 7
+  pub length-month : length (toMonth f) ≡ 7
   length-month = length-front (padded 4 f.year) (code "-") f.month 4 length-year (omega arith)
 
-  length-day : length (toDay f) ≡ 10
+  pub length-day : length (toDay f) ≡ 10
   length-day = length-front (toMonth f) (code "-") f.day 7 length-month (omega arith)
 
   length-hour : length (toHour f) ≡ 13
   length-hour = length-front (toDay f) (code "T") f.hour 10 length-day (omega arith)
 
-  length-minute : length (toMinute f) ≡ 16
+  pub length-minute : length (toMinute f) ≡ 16
   length-minute = length-front (toHour f) (code ":") f.minute 13 length-hour (omega arith)
 
 -- ---- the whole
+
+pub length-second : (f : Fields) (a : ℕ) → Valid f a → length (toFraction f a) ≡ 19 + fractionLength f.digits
+length-second f a v =
+    let s = length-front (toMinute f) (code ":") f.second 16 (length-minute f v.to-year (valid-in-range v)) (omega arith) in
+    omega (arith, length-append (toSecond f) (fractionText f.digits a), length-fraction f.digits a v.digits v.attoseconds)
 
 either : (t : Bool) (a b : List ℕ) (m n : ℕ) → length a ≡ m → length b ≡ n → length (cond t a b) ≡ cond t m n
 either true a b m n h k = h
@@ -114,16 +121,14 @@ length-text f a v =
     let mo = length-month f v.to-year r in
     let d = length-day f v.to-year r in
     let mi = length-minute f v.to-year r in
-    let s = length-front (toMinute f) (code ":") f.second 16 mi (omega arith) in
-    let u = fractionText f.digits a in
-    let x = length-fraction f.digits a v.digits v.attoseconds in
+    let s = length-second f a v in
     let w = offsetText (offsetOf f.offset) in
     let o = length-offset (offsetOf f.offset) (valid-offset v) in
     either (eqb p 0) _ _ 5 _ (omega (arith, length-append (padded 4 f.year) (ascii "T")))
     (either (eqb p 1) _ _ 8 _ (omega (arith, length-append (toMonth f) (ascii "T")))
     (either (eqb p 2) _ _ 11 _ (omega (arith, length-append (toDay f) (ascii "T")))
     (either (eqb p 3) _ _ 22 _ (omega (arith, length-append (toMinute f) w))
-    (omega (arith, length-append (toFraction f a) w, length-append (toSecond f) u)))))
+    (omega (arith, length-append (toFraction f a) w)))))
 
 -- whatever the precision, and up to eighteen digits
 most : (t : Bool) (m n k : ℕ) → m ≤ k → n ≤ k → cond t m n ≤ k
@@ -139,3 +144,29 @@ longest f a v =
     (most (eqb p 0) 5 _ 44 (lit≤ tt)
     (most (eqb p 1) 8 _ 44 (lit≤ tt)
     (most (eqb p 2) 11 _ 44 (lit≤ tt) (most (eqb p 3) 22 _ 44 (lit≤ tt) (omega arith)))))
+
+-- ---- lists of laws, for the code
+
+-- what was put has these lengths
+pub ruleset lengths = (length-exact, length-marked, length-append)
+
+pub ruleset seconds = (length-exact, length-marked, length-append, length-fraction, valid-in-range)
+
+pub ruleset texts = (
+  length-text,
+  length-year,
+  length-month,
+  length-day,
+  length-minute,
+  length-second,
+  length-offset,
+  valid-in-range,
+  valid-offset,
+)
+
+-- one run of bytes after another
+pub ruleset runs = (run-two, length-exact, length-marked)
+
+pub ruleset fractions = (run-none, scale-pos, units-lt, count-most)
+
+pub ruleset offsets = (back-within, length-offset)

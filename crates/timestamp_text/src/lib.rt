@@ -37,6 +37,7 @@ fn text_length(precision: u32, digits: u32) -> usize
 }
 
 // Writes the text of fields from index `at` on, where there is room for it; the index after it.
+#[tactic(auto, using(crate::proofs::Lengths::texts))]
 pub fn text_into(buf: &mut [u8], at: usize, f: Fields, attoseconds: u64) -> usize
     requires { (at + length (fieldsText f attoseconds) ≤ length buf.old) × Valid f attoseconds }
     ensures { Run buf.old at (fieldsText f attoseconds) buf.new result }

@@ -10,6 +10,7 @@ use ion::offset::{Offset, OffsetMinutes, RawOffset};
 use text::text_formatter;
 
 // A sign, hours and minutes.
+#[tactic(auto, using(crate::proofs::Lengths::runs), unfolding(ion::specs::Text::Format::clockText))]
 fn put_clock(buf: &mut [u8], at: usize, sign: u8, minutes: u32) -> usize
     requires { (at + 6 ≤ length buf.old) × (minutes < 1440) }
     ensures { Run buf.old at (sign ∷ clockText minutes) buf.new result }
@@ -20,6 +21,7 @@ fn put_clock(buf: &mut [u8], at: usize, sign: u8, minutes: u32) -> usize
 }
 
 // A known offset.
+#[tactic(auto, using(crate::proofs::Offsets::signs))]
 fn put_minutes(buf: &mut [u8], at: usize, m: OffsetMinutes) -> usize
     requires { (at + 6 ≤ length buf.old) × (nat_abs m.0 < 1440) }
     ensures { Run buf.old at (minutesText m.0) buf.new result }
@@ -35,6 +37,7 @@ fn put_minutes(buf: &mut [u8], at: usize, m: OffsetMinutes) -> usize
     at + 6
 }
 
+#[tactic(auto, using(crate::proofs::Lengths::offsets), unfolding(ion::specs::Text::Format::offsetText))]
 pub(crate) fn format_offset(buf: &mut [u8], at: usize, raw: RawOffset) -> usize
     requires { (at + 6 ≤ length buf.old) × (raw.0 < 2880) }
     ensures { Run buf.old at (offsetText (offsetOf raw)) buf.new result }

@@ -17,6 +17,7 @@ pub(crate) fn put_byte(buf: &mut [u8], at: usize, byte: u8) -> usize
     at + 1
 }
 
+#[tactic(auto, using(crate::proofs::Lengths::runs), unfolding(ion::specs::Text::Format::marked))]
 pub(crate) fn put_marked(buf: &mut [u8], at: usize, mark: u8, value: u32) -> usize
     requires { (at + 3 ≤ length buf.old) × (value < 100) }
     ensures { Run buf.old at (marked mark value) buf.new result }
@@ -26,6 +27,7 @@ pub(crate) fn put_marked(buf: &mut [u8], at: usize, mark: u8, value: u32) -> usi
 }
 
 // A point and the digits of a fraction, or nothing.
+#[tactic(auto, using(crate::proofs::Lengths::fractions), unfolding(ion::specs::Text::Format::fractionText))]
 fn format_fractional_seconds(buf: &mut [u8], at: usize, digits: u32, attoseconds: u64) -> usize
     requires { (at + fractionLength digits ≤ length buf.old) × (digits ≤ 18) × (attoseconds < 10 ^ 18) }
     ensures { Run buf.old at (fractionText digits attoseconds) buf.new result }
@@ -46,6 +48,7 @@ fn format_fractional_seconds(buf: &mut [u8], at: usize, digits: u32, attoseconds
 
 // ---- each writes what the one above it does, and then more
 
+#[tactic(auto, using(crate::proofs::Lengths::lengths))]
 pub(crate) fn format_year_and_month(buf: &mut [u8], at: usize, f: Fields) -> usize
     requires { (at + length (toMonth f) ≤ length buf.old) × (f.year ≤ 9999) × InRange f }
     ensures { Run buf.old at (toMonth f) buf.new result }
@@ -54,6 +57,7 @@ pub(crate) fn format_year_and_month(buf: &mut [u8], at: usize, f: Fields) -> usi
     put_marked(buf, next, b'-', f.month)
 }
 
+#[tactic(auto, using(crate::proofs::Lengths::lengths))]
 pub(crate) fn format_date(buf: &mut [u8], at: usize, f: Fields) -> usize
     requires { (at + length (toDay f) ≤ length buf.old) × (f.year ≤ 9999) × InRange f }
     ensures { Run buf.old at (toDay f) buf.new result }
@@ -62,6 +66,7 @@ pub(crate) fn format_date(buf: &mut [u8], at: usize, f: Fields) -> usize
     put_marked(buf, next, b'-', f.day)
 }
 
+#[tactic(auto, using(crate::proofs::Lengths::lengths))]
 pub(crate) fn format_date_hour_and_minute(buf: &mut [u8], at: usize, f: Fields) -> usize
     requires { (at + length (toMinute f) ≤ length buf.old) × (f.year ≤ 9999) × InRange f }
     ensures { Run buf.old at (toMinute f) buf.new result }
@@ -71,6 +76,7 @@ pub(crate) fn format_date_hour_and_minute(buf: &mut [u8], at: usize, f: Fields) 
     put_marked(buf, minute, b':', f.minute)
 }
 
+#[tactic(auto, using(crate::proofs::Lengths::seconds))]
 pub(crate) fn format_to_fraction(buf: &mut [u8], at: usize, f: Fields, attoseconds: u64) -> usize
     requires { (at + length (toFraction f attoseconds) ≤ length buf.old) × Valid f attoseconds }
     ensures { Run buf.old at (toFraction f attoseconds) buf.new result }
