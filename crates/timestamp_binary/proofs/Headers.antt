@@ -7,6 +7,7 @@ use native.Mathlib.Omega.{arith}
 use borrow.Author.Tests.{le-leb, lt-leb}
 use lib.ListN.{length, take, drop, set, length-set}
 use lib.Seq.{length-take-le}
+use Rattle.ion.specs.Calls.Accepted.{Accepted}
 use Rattle.ion.specs.Calls.Output.{Run, Between}
 use Rattle.ion.specs.Numbers.VarUInt.{groups, varuint, groupCount}
 use Rattle.ion.specs.Value.Encode.{bodyOf, header, valueOf}
@@ -15,6 +16,7 @@ use Rattle.output.proofs.Stores.{length-over}
 use Rattle.output.proofs.Runs.{run-front}
 use Rattle.binary.proofs.Groups.{groups-one}
 use Rattle.binary.proofs.VarUInts.{count-shortest, count-some}
+use Rattle.timestamp_binary.proofs.Lengths.{body-length}
 
 -- ---- by the length of the body
 
@@ -67,13 +69,16 @@ module _ {b t : List ℕ} {e : ℕ} (f : Front b t e) where
 
 -- ---- the header in front of a body that was put two bytes from the start of d
 
-module _ (s : Timestamp) {d b : List ℕ} {e : ℕ} (run : Run d 2 (bodyOf s) b e) (room : e ≤ length d) where
+module _ {s : Timestamp} {d b : List ℕ} {e : ℕ} (p : Accepted s × (20 ≤ length d)) (run : Run d 2 (bodyOf s) b e) where
+  most : e ≤ 20
+  most = omega (arith, body-length s p.0, run.next)
+
   size : length b ≡ length d
-  size = ap length run.bytes ∙ length-over d 2 (bodyOf s) (omega (arith, run.next))
+  size = ap length run.bytes ∙ length-over d 2 (bodyOf s) (omega (arith, run.next, most))
 
   front : Front b (bodyOf s) e
   front =
-      let h : 2 ≤ length d = omega (arith, run.next) in
+      let h : 2 ≤ length d = omega arith in
       front-of b (take 2 d) (bodyOf s) e (length-take-le 2 d h) (run-front run h)
 
   body-size : e - 2 ≡ length (bodyOf s)
@@ -85,17 +90,17 @@ module _ (s : Timestamp) {d b : List ℕ} {e : ℕ} (run : Run d 2 (bodyOf s) b 
       let short = header-short (length (bodyOf s)) (omega (arith, body-size)) in
       record {
         from = omega (arith, run.next);
-        to = simp length-set (omega (arith, size));
+        to = simp length-set (omega (arith, size, most));
         bytes = one-stored front (0x60 + (e - 2)) ∙ rw body-size (ap (λ (t : List ℕ). t ++ bodyOf s) (sym short));
       }
 
-  pub stored-long : 13 < e - 2 → e - 2 < 128 → Between (set (set b 0 0x6e) 1 (0x80 + (e - 2))) 0 e (valueOf s)
+  pub stored-long : 13 < e - 2 → Between (set (set b 0 0x6e) 1 (0x80 + (e - 2))) 0 e (valueOf s)
   unfolding valueOf
-  stored-long h l =
-      let long = header-long (length (bodyOf s)) (omega (arith, body-size)) (omega (arith, body-size)) in
+  stored-long h =
+      let long = header-long (length (bodyOf s)) (omega (arith, body-size)) (omega (arith, body-size, most)) in
       record {
         from = omega arith;
-        to = simp length-set (omega (arith, size));
+        to = simp length-set (omega (arith, size, most));
         bytes = rw (sub-zero e)
             (two-stored front 0x6e (0x80 + (e - 2)) ∙ rw body-size (ap (λ (t : List ℕ). t ++ bodyOf s) (sym long)));
       }

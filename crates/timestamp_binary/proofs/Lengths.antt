@@ -24,6 +24,7 @@ use Rattle.ion.specs.declared.Fields.{Fields}
 use Rattle.ion.specs.declared.Timestamp.{Timestamp}
 use Rattle.ion.specs.declared.offset.Offset.{Offset}
 use Rattle.ion.specs.declared.offset.Offset.TheVariants.{Unknown, Known}
+use Rattle.output.proofs.Runs.{run-front}
 use Rattle.binary.proofs.VarUInts.{count-shortest, count-some, length-varuint}
 use Rattle.binary.proofs.VarInts.{length-signed, signed-shortest, signed-some}
 use Rattle.binary.proofs.Ints.{length-int, int-least}
@@ -157,3 +158,9 @@ value-some s =
     let c = s.attoseconds / scale f.digits in
     let b = bodyFrom (offsetOf f.offset) (utcFields f) c in
     omega (arith, length-append (header (length b)) b, header-some (length b), body-some (offsetOf f.offset) (utcFields f) c)
+
+-- ---- lists of laws, for the code
+
+pub ruleset size = (length-signed)
+
+pub ruleset body = (body-length, run-front)

@@ -36,6 +36,7 @@ pub struct Span {
 }
 
 // An unknown offset is negative zero.
+#[tactic(auto, using(crate::proofs::Lengths::size), unfolding(ion::specs::Value::Encode::offsetBytes, ion::specs::Numbers::VarInt::varint))]
 fn put_offset(buf: &mut [u8], at: usize, o: Offset) -> usize
     requires { at + length (offsetBytes o) ≤ length buf.old }
     ensures { Run buf.old at (offsetBytes o) buf.new result }
@@ -53,6 +54,7 @@ fn put_offset(buf: &mut [u8], at: usize, o: Offset) -> usize
 }
 
 // How many fields there are at a precision.
+#[tactic(auto, unfolding(ion::specs::Value::Encode::fieldCount))]
 fn field_count(precision: u32) -> usize
     requires { precision ≤ 4 }
     ensures { result ≡ fieldCount precision }
@@ -78,6 +80,7 @@ fn put_fields(buf: &mut [u8], at: usize, fields: [u32; 6], count: usize) -> usiz
 }
 
 // The exponent and the coefficient of a fraction. One without digits has no bytes, and is not divided.
+#[tactic(auto, using(crate::proofs::BodyRuns::fractions))]
 fn put_fraction(buf: &mut [u8], at: usize, digits: u32, attoseconds: u64) -> usize
     requires { at + length (fractionBytes digits (attoseconds / scale digits)) ≤ length buf.old }
     ensures { Run buf.old at (fractionBytes digits (attoseconds / scale digits)) buf.new result }
@@ -107,6 +110,7 @@ fn put_body(buf: &mut [u8], at: usize, s: Timestamp) -> usize
 }
 
 // Writes the body of a timestamp's value from index `at` on.
+#[tactic(auto, using(crate::proofs::Lengths::body), unfolding(ion::specs::Calls::Output::putAfter, ion::specs::Calls::Output::wroteAfter))]
 pub fn encode_timestamp(buf: &mut [u8], at: usize, s: Timestamp) -> Written
     ensures value { result ≡ wroteAfter (checkNumber s) buf.old at (bodyOf s) }
     ensures buffer { buf.new ≡ putAfter (checkNumber s) buf.old at (bodyOf s) }
@@ -124,6 +128,7 @@ pub fn encode_timestamp(buf: &mut [u8], at: usize, s: Timestamp) -> Written
 }
 
 // Gathers the value of an accepted timestamp in `bytes`: its header goes into the two bytes before its body.
+#[tactic(auto, using(crate::proofs::Lengths::body))]
 pub fn gather_value(bytes: &mut [u8], s: Timestamp) -> Span
     requires { Accepted s × (20 ≤ length bytes.old) }
     ensures { Between bytes.new result.start result.end (valueOf s) }
@@ -140,6 +145,7 @@ pub fn gather_value(bytes: &mut [u8], s: Timestamp) -> Span
 }
 
 // Writes the value of a timestamp from index `at` on.
+#[tactic(auto, unfolding(ion::specs::Calls::Output::putAfter, ion::specs::Calls::Output::wroteAfter))]
 pub fn encode_timestamp_value(buf: &mut [u8], at: usize, s: Timestamp) -> Written
     ensures value { result ≡ wroteAfter (checkNumber s) buf.old at (valueOf s) }
     ensures buffer { buf.new ≡ putAfter (checkNumber s) buf.old at (valueOf s) }
