@@ -1,18 +1,20 @@
 // The lines that the program prints.
-use libc::STDOUT_FILENO;
+use std::io::{self, Write};
 
 // How many agree, and what is said of them.
-pub(crate) fn print_counts(agreed: usize, records: usize, mark: &[u8], said: &[u8]) {
-    io::print_decimal(STDOUT_FILENO, agreed as u64);
-    io::write_all(STDOUT_FILENO, b" of ");
-    io::print_decimal(STDOUT_FILENO, records as u64);
-    io::write_all(STDOUT_FILENO, mark);
-    io::write_all(STDOUT_FILENO, said);
-    io::write_all(STDOUT_FILENO, b"\n");
+pub(crate) fn print_counts<W: Write>(
+    out: &mut W,
+    agreed: usize,
+    records: usize,
+    mark: &[u8],
+    said: &[u8],
+) -> io::Result<()> {
+    write!(out, "{agreed} of {records}")?;
+    out.write_all(mark)?;
+    out.write_all(said)?;
+    out.write_all(b"\n")
 }
 
-pub(crate) fn print_broken(records: usize) {
-    io::write_all(STDOUT_FILENO, b"broken file after ");
-    io::print_decimal(STDOUT_FILENO, records as u64);
-    io::write_all(STDOUT_FILENO, b" records\n");
+pub(crate) fn print_broken<W: Write>(out: &mut W, records: usize) -> io::Result<()> {
+    writeln!(out, "broken file after {records} records")
 }

@@ -6,23 +6,17 @@ mod lines;
 mod records;
 mod replay;
 
-ghost use Rattle.std.specs.Prelude.{◌≡◌, length};
-
-use libc::STDIN_FILENO;
+use std::io::{self, Read};
 
 // A file has fewer bytes than this: a longer one is taken for broken.
-fn input_room() -> [u8; 262_144]
-    ensures { 262_144 ≡ length result }
-{
-    [0u8; 262_144]
-}
+const INPUT_LIMIT: usize = 262_144;
 
-fn main() {
-    let mut input = input_room();
-    let n = io::read_full(STDIN_FILENO, &mut input);
-    if n == 262_144 {
-        lines::print_broken(0);
-        return;
+fn main(rt: HostRuntime) -> io::Result<()> {
+    let mut file = Vec::new(rt.alloc());
+    rt.reader().take(INPUT_LIMIT as u64).read_to_end(&mut file)?;
+    let mut out = io::writer(&rt);
+    if file.len() >= INPUT_LIMIT {
+        return lines::print_broken(&mut out, 0);
     }
-    replay::replay(&input[..n]);
+    replay::replay(&mut out, &file)
 }

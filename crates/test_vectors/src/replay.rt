@@ -1,9 +1,10 @@
 // The cases of a file, source by source.
-ghost use Rattle.std.specs.Prelude.{◌+◌, ◌≤◌, length};
+ghost use Rattle.std.specs.Prelude.{◌+◌, ◌≤◌, length, IfOk};
 ghost use Rattle.test_vectors.specs.Records.{Counted};
 
 use crate::lines::{print_broken, print_counts};
 use crate::records::{Record, record_at};
+use std::io::{self, Write};
 use test_cases::agrees;
 
 // Where the cases end, how many there are, and how many of them agree.
@@ -50,41 +51,41 @@ fn count_cases(file: &[u8], start: usize) -> Tally
 }
 
 // The cases of the source whose name stands from index `from` up to `to`; prints a line.
-fn count_source(file: &[u8], from: usize, to: usize) -> Tally
+fn count_source<W: Write>(out: &mut W, file: &[u8], from: usize, to: usize) -> io::Result<Tally>
     requires { (from ≤ to) × (to ≤ length file.now) }
-    ensures { Counted to (length file.now) result }
+    ensures { IfOk result (λ t. Counted to (length file.now) t) }
 {
     let t = count_cases(file, to);
-    print_counts(t.agreed, t.records, b", ", &file[from..to]);
-    t
+    print_counts(out, t.agreed, t.records, b", ", &file[from..to])?;
+    Ok(t)
 }
 
 // The cases of the sources, up to a record that is no source.
-fn count_sources(file: &[u8]) -> Tally
-    ensures { Counted 0 (length file.now) result }
+fn count_sources<W: Write>(out: &mut W, file: &[u8]) -> io::Result<Tally>
+    ensures { IfOk result (λ t. Counted 0 (length file.now) t) }
 {
     let mut at = 0;
     let mut records = 0;
     let mut agreed = 0;
     while at < file.len() {
         let Record::Source(n) = record_at(file, at) else {
-            return Tally {
+            return Ok(Tally {
                 end: at,
                 records: records,
                 agreed: agreed,
-            };
+            });
         };
         let name = at + 2;
-        let t = count_source(file, name, name + n);
+        let t = count_source(out, file, name, name + n)?;
         records += t.records;
         agreed += t.agreed;
         at = t.end;
     }
-    Tally {
+    Ok(Tally {
         end: at,
         records: records,
         agreed: agreed,
-    }
+    })
 }
 
 // Whether the last bytes are an end record with that number of cases.
@@ -102,11 +103,10 @@ fn ends(file: &[u8], at: usize, records: usize) -> bool
 
 // Prints a line for each source, and then how many cases agree, or that the file is broken: it must end
 // in an end record with the number of its cases, and each case must come after a source.
-pub(crate) fn replay(file: &[u8]) {
-    let t = count_sources(file);
+pub(crate) fn replay<W: Write>(out: &mut W, file: &[u8]) -> io::Result<()> {
+    let t = count_sources(out, file)?;
     if ends(file, t.end, t.records) {
-        print_counts(t.agreed, t.records, b" agree", b"");
-        return;
+        return print_counts(out, t.agreed, t.records, b" agree", b"");
     }
-    print_broken(t.records);
+    print_broken(out, t.records)
 }
