@@ -38,3 +38,6 @@ module _ (s t : Timestamp) (p : Accepted s) (q : Accepted t) where
   pub distance-counts : distanceOf s t ≡ distanceOfCounts (countOf s) (countOf t)
   unfolding distanceOf
   distance-counts = answered-zero _ _ refusedDistance (both-zero s t p q)
+
+-- for the code
+pub ruleset both = (both-accepted)

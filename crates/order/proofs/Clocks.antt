@@ -96,3 +96,13 @@ module _ (f g : Fields) (p : IsLocalFields f) (q : IsLocalFields g) where
     pub distance_is :
         distanceOfCounts (first * 10 ^ 18 + a) (second * 10 ^ 18 + b) ≡ distanceOfCounts (fieldsCount f a) (fieldsCount g b)
     distance_is = ap₂ distant (order-shift _ _ _ _ counts-shift) (size-shift _ _ _ _ counts-shift)
+
+-- ---- lists of laws, for the code
+
+pub ruleset minutes_below = (minutes-below)
+
+pub ruleset ahead = (valid-local, ahead-small)
+
+pub ruleset moved = (moved-gives, moved-below)
+
+pub ruleset clocks = (valid-local, distance_is)

@@ -1,13 +1,13 @@
 -- The order of two numbers, and of two pairs of numbers. Assumes nothing.
 use mathlib.Core.Path.{◌≡◌, refl, sym, ap, ap₂, subst, ◌∙◌}
-use mathlib.Core.Bool.{Bool, true, false, cond, true≢false, false≢true}
+use mathlib.Core.Bool.{Bool, true, cond, false≢true}
 use Prim.Native.Nat.{ℕ, ◌+◌, ◌≤◌, ◌<◌}
 use native.Mathlib.Nat.{le_of_lt}
 use native.Mathlib.Decide.{dec_lt}
 use native.Mathlib.Omega.{arith}
 use lib.Dec.{eqb}
 use lib.IntN.{ℤ, pos, negsuc, neg_ℤ}
-use lib.Signed.{lt_z, le_z}
+use lib.Signed.{le_z}
 use mir.Syntax.{w32}
 use mir.Val.{of_z}
 use borrow.Author.Tests.{lt-ltb, le-ltb, eq-eqb, ne_eqb, eqb-true}
@@ -47,14 +47,6 @@ order-shift m n s t e = order-alike m n s t (λ h. omega arith) (λ h. omega ari
 -- ---- what the sign says
 
 module _ (m n : ℕ) where
-  pub order-negative : lt_z (orderOf m n) (pos 0) ≡ true → m < n
-  order-negative =
-      by-order m n (λ z. lt_z z (pos 0) ≡ true → m < n) (λ h e. h) (λ h e. absurd (false≢true e)) (λ h e. absurd (false≢true e))
-
-  pub order-not-negative : lt_z (orderOf m n) (pos 0) ≡ false → n ≤ m
-  order-not-negative =
-      by-order m n (λ z. lt_z z (pos 0) ≡ false → n ≤ m) (λ h e. absurd (true≢false e)) (λ h e. omega arith) (λ h e. le_of_lt h)
-
   pub order-at-most : le_z (orderOf m n) (pos 0) ≡ true → m ≤ n
   order-at-most =
       by-order m n (λ z. le_z z (pos 0) ≡ true → m ≤ n) (λ h e. le_of_lt h) (λ h e. omega arith) (λ h e. absurd (false≢true e))

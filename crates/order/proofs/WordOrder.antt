@@ -85,7 +85,8 @@ module _ (f g : Fields) (p : IsLocalFields f) (q : IsLocalFields g) where
   offset-alike e =
       let u = ap up e in
       let d = ap down e in
-      time-alike ∙ order-shift (localSeconds f) (localSeconds g) (utcSeconds f) (utcSeconds g) (omega (arith, utc-parts f p, utc-parts g q))
+      time-alike
+      ∙ order-shift (localSeconds f) (localSeconds g) (utcSeconds f) (utcSeconds g) (omega (arith, utc-parts f p, utc-parts g q))
 
 -- ---- words cut at the second
 

@@ -31,6 +31,7 @@ pub(crate) fn order_of(s: Timestamp, t: Timestamp) -> i32
 }
 
 // The distance, by one clock.
+#[tactic(auto, using(crate::proofs::Clocks::clocks), unfolding(ion::specs::Pair::Count::countOf))]
 pub(crate) fn distance_of(s: Timestamp, t: Timestamp) -> Distance
     requires { Accepted s × Accepted t }
     ensures { result ≡ distanceOfCounts (countOf s) (countOf t) }

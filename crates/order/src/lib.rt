@@ -26,6 +26,7 @@ fn check_both(s: Timestamp, t: Timestamp) -> u32
 }
 
 // -1, 0 or 1, by the instants.
+#[tactic(auto, using(crate::proofs::Answers::both), unfolding(ion::specs::Calls::Order::cmpOf))]
 pub fn cmp(s: Timestamp, t: Timestamp) -> Ordered
     ensures { result ≡ cmpOf s t }
 {
@@ -43,6 +44,7 @@ pub fn cmp(s: Timestamp, t: Timestamp) -> Ordered
 }
 
 // Whether the instants are equal.
+#[tactic(auto, using(crate::proofs::Answers::both), unfolding(ion::specs::Calls::Order::eqOf))]
 pub fn eq(s: Timestamp, t: Timestamp) -> Compared
     ensures { result ≡ eqOf s t }
 {
@@ -60,6 +62,7 @@ pub fn eq(s: Timestamp, t: Timestamp) -> Compared
 }
 
 // Whether the pairs are equal.
+#[tactic(auto, unfolding(ion::specs::Calls::Order::ionEqOf))]
 pub fn ion_eq(s: Timestamp, t: Timestamp) -> Compared
     ensures { result ≡ ionEqOf s t }
 {
@@ -77,6 +80,7 @@ pub fn ion_eq(s: Timestamp, t: Timestamp) -> Compared
 }
 
 // -1, 0 or 1, by the packed words and then by the attoseconds.
+#[tactic(auto, unfolding(ion::specs::Calls::Order::ionCmpOf))]
 pub fn ion_cmp(s: Timestamp, t: Timestamp) -> Ordered
     ensures { result ≡ ionCmpOf s t }
 {
@@ -96,6 +100,7 @@ pub fn ion_cmp(s: Timestamp, t: Timestamp) -> Ordered
 }
 
 // The sign of the first less the second, and the size of the difference.
+#[tactic(auto, using(crate::proofs::Answers::both), unfolding(ion::specs::Calls::Order::distanceOf))]
 pub fn distance(s: Timestamp, t: Timestamp) -> Distance
     ensures { result ≡ distanceOf s t }
 {

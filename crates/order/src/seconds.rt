@@ -16,6 +16,7 @@ pub(crate) struct Seconds {
 }
 
 // Minutes from 0000-01-01T00:00 by the local clock.
+#[tactic(auto, using(crate::proofs::Clocks::minutes_below))]
 fn minute_number(f: Fields) -> u64
     requires { IsLocalFields f }
     ensures value { result ≡ minuteNumber (timeIn f) }
@@ -40,6 +41,7 @@ fn offset_difference(f: Fields, g: Fields) -> i32
 }
 
 // Whole seconds by a clock that is a number of minutes ahead of the local one.
+#[tactic(auto, using(crate::proofs::Clocks::moved))]
 fn seconds_at(f: Fields, ahead: i32) -> u64
     requires { IsLocalFields f × (nat_abs ahead < 2880) }
     ensures { result ≡ secondsAt f ahead }
@@ -49,6 +51,7 @@ fn seconds_at(f: Fields, ahead: i32) -> u64
 }
 
 // Those of two accepted timestamps.
+#[tactic(auto, using(crate::proofs::Clocks::ahead))]
 pub(crate) fn seconds_of_both(s: Timestamp, t: Timestamp) -> Seconds
     requires { Accepted s × Accepted t }
     ensures { result ≡ secondsOfBoth (fieldsOf (wordIn s)) (fieldsOf (wordIn t)) }
