@@ -15,7 +15,8 @@ use Rattle.ion.specs.Text.Ascii.{ascii}
 use Rattle.ion.specs.Text.Format.{unknownText, zeroText}
 use Rattle.ion.specs.Text.ReadText.{readMarked, onValue, knownOffset, signedClock, readClock, readOffset}
 use Rattle.ion.specs.Value.ReadValue.{same}
-use Rattle.ion.specs.declared.OffsetRead.TheVariants.{Wrong}
+use Rattle.ion.specs.declared.OffsetRead.TheVariants.{Found, Wrong}
+use Rattle.ion.specs.declared.offset.Offset.TheVariants.{Unknown}
 use Rattle.ion.proofs.Same.{same-not}
 
 -- ---- the first k bytes of two lists, compared one after the other
@@ -70,3 +71,17 @@ unfolding same
 offset-byte s at h =
     rw (drop-cons s at 0 (omega arith), drop_of_length-le s {i = suc at} (omega arith))
     (offset-short (get_or s at 0 ∷ []) (λ e. omega arith) ∙ rw (and-true (eqb (get_or s at 0) (code "Z"))))
+
+pub offset-unknown : (r : List ℕ) → same r unknownText ≡ true → readOffset r ≡ Found Unknown
+unfolding readOffset
+offset-unknown r e = rw e
+
+pub offset-zero : (r : List ℕ) → same r unknownText ≡ false → same r zeroText ≡ true → readOffset r ≡ knownOffset (pos 0)
+unfolding readOffset
+offset-zero r e f = rw (e, f)
+
+-- ---- lists of laws, for the code
+
+pub ruleset clocks = (clock-at)
+
+pub ruleset offsets = (offset-unknown, offset-zero, offset-clock, offset-other, offset-byte, length-drop)

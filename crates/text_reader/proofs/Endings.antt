@@ -4,11 +4,12 @@ use mathlib.Core.Bool.{Bool, true, false, not, cond, ◌&&◌, ◌||◌, and-tru
 use mathlib.Core.List.{List, []}
 use Prim.Native.Char.{code}
 use Prim.Native.Nat.{ℕ, suc, ◌+◌, ◌-◌, ◌*◌, ◌^◌, ◌≤◌, ◌<◌, min}
+use native.Mathlib.Nat.{mul-one}
 use native.Mathlib.Decide.{dec_le}
 use native.Mathlib.Omega.{arith}
 use borrow.Author.Tests.{le-leb, lt-leb, eq-eqb, ne_eqb}
 use lib.Dec.{eqb}
-use lib.ListN.{length, drop, get_or, length-drop, drop_of_length-le}
+use lib.ListN.{length, drop, get_or, get_or-eq_default, length-drop, drop_of_length-le}
 use lib.Seq.{drop-cons, drop-drop, get_or-drop}
 use Rattle.ion.specs.Pair.Fraction.{scale}
 use Rattle.ion.specs.Text.Ascii.{ascii}
@@ -21,6 +22,7 @@ use Rattle.ion.specs.declared.BuilderOffset.TheVariants.{Unknown}
 use Rattle.ion.specs.declared.OffsetRead.TheVariants.{Found, Wrong}
 use Rattle.ion.specs.declared.TextRead.{TextRead}
 use Rattle.ion.specs.declared.TextRead.TheVariants.{Form, Broken}
+use Rattle.fraction.proofs.Capped.{scaled-low}
 use Rattle.text_reader.specs.Parts.{RunIs, fractionRead, endingRead, given, after, ends, FractionIs, EndingIs}
 use Rattle.text_reader.specs.declared.digits.DigitRun.{DigitRun}
 use Rattle.text_reader.specs.declared.ending.FractionRead.{FractionRead}
@@ -80,6 +82,11 @@ module _ (s : List ℕ) where
       let p = rw e at n in
       rw e (record { inside = rw e at h; form = λ x l. rw (get_or-drop 19 s 0 0, ne_eqb (get_or s 19 0) (code ".") p) })
 
+  pub fraction-ended : (k : ℕ) → k ≡ 6 → length s ≡ 1 + 3 * k → FractionIs s k (fractionRead true 0 0 (1 + 3 * k))
+  fraction-ended k e h =
+      let z = get_or-eq_default s 0 (let l : length s ≤ 1 + 3 * k = omega arith in l) in
+      fraction-none k e (omega arith) (λ p. omega (arith, p, z))
+
   -- a point and n digits, of which the first 18 make v
   second-some : (n v a d : ℕ) → get_or s 19 0 ≡ code "." → RunIs (drop 20 s) (record { count = n; value = v }) → 20 ≤ length s
       → a ≡ v * scale (min n 18) → d ≡ min n 19 → FractionIs s 6 (fractionRead (not (eqb n 0)) a d (20 + n))
@@ -97,10 +104,25 @@ module _ (s : List ℕ) where
       turned true z = refl
       turned false z = refl
 
-  pub fraction-some : (k n v a d : ℕ) → k ≡ 6 → get_or s (1 + 3 * k) 0 ≡ code "."
+  fraction-some : (k n v a d : ℕ) → k ≡ 6 → get_or s (1 + 3 * k) 0 ≡ code "."
       → RunIs (drop (1 + 3 * k + 1) s) (record { count = n; value = v }) → 1 + 3 * k + 1 ≤ length s
       → a ≡ v * scale (min n 18) → d ≡ min n 19 → FractionIs s k (fractionRead (not (eqb n 0)) a d (1 + 3 * k + 1 + n))
   fraction-some k n v a d e p run h ea ed = rw e (second-some n v a d (rw e at p) (rw e at run) (rw e at h) ea ed)
+
+  -- a second's fraction, of the digits x
+  module _ (k : ℕ) (x : DigitRun) (e : k ≡ 6) (p : get_or s (1 + 3 * k) 0 ≡ code ".") (run : RunIs (drop (1 + 3 * k + 1) s) x) where
+    pub fraction-digits : x.count < 18 → 1 + 3 * k + 1 ≤ length s
+        → FractionIs s k (fractionRead (not (eqb x.count 0)) (x.value * scale x.count) x.count (1 + 3 * k + 1 + x.count))
+    fraction-digits l h =
+        let m : min x.count 18 ≡ x.count = omega arith in
+        fraction-some k x.count x.value _ _ e p run h (rw m) (omega arith)
+
+    -- eighteen or more
+    pub fraction-all : (d : ℕ) → 18 ≤ x.count → 1 + 3 * k + 1 ≤ length s → d ≡ min x.count 19
+        → FractionIs s k (fractionRead true x.value d (1 + 3 * k + 1 + x.count))
+    fraction-all d l h f =
+        let m : min x.count 18 ≡ 18 = omega arith in
+        rw (ne_eqb x.count 0 (λ z. omega arith)) at (fraction-some k x.count x.value x.value d e p run h (rw m (sym (mul-one x.value))) f)
 
 -- ---- the whole ending, after k fields
 
@@ -128,3 +150,11 @@ module _ (s : List ℕ) (k : ℕ) where
         → EndingIs s k (endingRead true r.attoseconds r.digits o)
     unfolding endOffset
     ending-offset o h e = record { form = λ x l. f.form x l ∙ rw (h, e) }
+
+-- ---- lists of laws, for the code
+
+pub ruleset ends_in_t = (t-none, t-long, t-one)
+
+pub ruleset fractions = (fraction-minute, fraction-ended, fraction-none, run-le, length-drop, run-below, scaled-low)
+
+pub ruleset endings = (ending-date, ending-hour, ending-point, ending-wrong, ending-offset)

@@ -19,83 +19,60 @@ not-missing : {x : DigitsRead} {n : ℕ} → x ≡ Value n → x ≡ Missing →
 not-missing e z = false≢true (ap (λ (x : DigitsRead). onValue x false (λ n. true)) (sym z ∙ e))
 
 module _ (s : List ℕ) where
-  digits-fit : (k n : ℕ) → readDigits k s ≡ Value n → k ≤ length s
+  digits-fit : (k n : ℕ) → Value n ≡ readDigits k s → k ≤ length s
   digits-fit k n e = go (dec_le k (length s))
     where
       go : Dec (k ≤ length s) → k ≤ length s
       go (yes h) = h
-      go (no h) = absurd (not-missing e (digits-short k s (omega arith)))
+      go (no h) = absurd (not-missing (sym e) (digits-short k s (omega arith)))
 
-  marked-fit : (at mark n : ℕ) → readMarked mark (drop at s) ≡ Value n → at + 3 ≤ length s
+  marked-fit : (at mark n : ℕ) → Value n ≡ readMarked mark (drop at s) → at + 3 ≤ length s
   marked-fit at mark n e = go (dec_le (at + 3) (length s))
     where
       go : Dec (at + 3 ≤ length s) → at + 3 ≤ length s
       go (yes h) = h
-      go (no h) = absurd (not-missing e (marked-short s at mark (omega arith)))
+      go (no h) = absurd (not-missing (sym e) (marked-short s at mark (omega arith)))
 
-  -- ---- the fields up to each
+-- ---- the fields up to each, and then no more of them
 
-  abbrev pub Year : ℕ → Type 0
-  Year y = readDigits 4 s ≡ Value y
-
-  abbrev pub Month : ℕ → ℕ → Type 0
-  Month y mo = Year y × (readMarked (code "-") (drop 4 s) ≡ Value mo)
-
-  abbrev pub Day : ℕ → ℕ → ℕ → Type 0
-  Day y mo d = Month y mo × (readMarked (code "-") (drop 7 s) ≡ Value d)
-
-  abbrev pub Hour : ℕ → ℕ → ℕ → ℕ → Type 0
-  Hour y mo d h = Day y mo d × (readMarked (code "T") (drop 10 s) ≡ Value h)
-
-  abbrev pub Minute : ℕ → ℕ → ℕ → ℕ → ℕ → Type 0
-  Minute y mo d h mi = Hour y mo d h × (readMarked (code ":") (drop 13 s) ≡ Value mi)
-
-  abbrev pub Second : ℕ → ℕ → ℕ → ℕ → ℕ → ℕ → Type 0
-  Second y mo d h mi sec = Minute y mo d h mi × (readMarked (code ":") (drop 16 s) ≡ Value sec)
-
-  -- ---- and then no more of them
-
-  pub none-read : readDigits 4 s ≡ Missing → FieldsAre s (fieldsRead 0 precision.Year 0 0 0 0 0 0)
+module _ {s : List ℕ} where
+  pub none-read : Missing ≡ readDigits 4 s → FieldsAre s (fieldsRead 0 precision.Year 0 0 0 0 0 0)
   unfolding readText
-  none-read e = record { most = omega arith; inside = λ h. absurd (omega arith); form = rw e }
+  none-read z = record { most = omega arith; inside = λ h. absurd (omega arith); form = rw (← z) }
 
-  pub year-read : (y : ℕ) → Year y → readMarked (code "-") (drop 4 s) ≡ Missing
-      → FieldsAre s (fieldsRead 1 precision.Year y 1 1 0 0 0)
-  unfolding readText
-  year-read y e z = record { most = omega arith; inside = λ h. digits-fit 4 y e; form = rw (e, z) }
+  module _ {y : ℕ} (e₁ : Value y ≡ readDigits 4 s) where
+    pub year-read : Missing ≡ readMarked (code "-") (drop 4 s) → FieldsAre s (fieldsRead 1 precision.Year y 1 1 0 0 0)
+    unfolding readText
+    year-read z = record { most = omega arith; inside = λ h. digits-fit s 4 y e₁; form = rw (← e₁, ← z) }
 
-  pub month-read : (y mo : ℕ) → Month y mo → readMarked (code "-") (drop 7 s) ≡ Missing
-      → FieldsAre s (fieldsRead 2 precision.Month y mo 1 0 0 0)
-  unfolding readText
-  month-read y mo e z = record { most = omega arith; inside = λ h. marked-fit 4 _ mo e.1; form = rw (e.0, e.1, z) }
+    module _ {mo : ℕ} (e₂ : Value mo ≡ readMarked (code "-") (drop 4 s)) where
+      pub month-read : Missing ≡ readMarked (code "-") (drop 7 s) → FieldsAre s (fieldsRead 2 precision.Month y mo 1 0 0 0)
+      unfolding readText
+      month-read z = record { most = omega arith; inside = λ h. marked-fit s 4 _ mo e₂; form = rw (← e₁, ← e₂, ← z) }
 
-  pub day-read : (y mo d : ℕ) → Day y mo d → readMarked (code "T") (drop 10 s) ≡ Missing
-      → FieldsAre s (fieldsRead 3 precision.Day y mo d 0 0 0)
-  unfolding readText
-  day-read y mo d e z =
-      record { most = omega arith; inside = λ h. marked-fit 7 _ d e.1; form = rw (e.0.0, e.0.1, e.1, z) }
+      module _ {d : ℕ} (e₃ : Value d ≡ readMarked (code "-") (drop 7 s)) where
+        pub day-read : Missing ≡ readMarked (code "T") (drop 10 s) → FieldsAre s (fieldsRead 3 precision.Day y mo d 0 0 0)
+        unfolding readText
+        day-read z = record { most = omega arith; inside = λ h. marked-fit s 7 _ d e₃; form = rw (← e₁, ← e₂, ← e₃, ← z) }
 
-  pub hour-read : (y mo d h : ℕ) → Hour y mo d h → readMarked (code ":") (drop 13 s) ≡ Missing
-      → FieldsAre s (fieldsRead 4 precision.HourAndMinute y mo d h 0 0)
-  unfolding readText
-  hour-read y mo d h e z =
-      record { most = omega arith; inside = λ l. marked-fit 10 _ h e.1; form = rw (e.0.0.0, e.0.0.1, e.0.1, e.1, z) }
+        module _ {h : ℕ} (e₄ : Value h ≡ readMarked (code "T") (drop 10 s)) where
+          pub hour-read : Missing ≡ readMarked (code ":") (drop 13 s) → FieldsAre s (fieldsRead 4 precision.HourAndMinute y mo d h 0 0)
+          unfolding readText
+          hour-read z = record { most = omega arith; inside = λ l. marked-fit s 10 _ h e₄; form = rw (← e₁, ← e₂, ← e₃, ← e₄, ← z) }
 
-  pub minute-read : (y mo d h mi : ℕ) → Minute y mo d h mi → readMarked (code ":") (drop 16 s) ≡ Missing
-      → FieldsAre s (fieldsRead 5 precision.HourAndMinute y mo d h mi 0)
-  unfolding readText
-  minute-read y mo d h mi e z =
-      record {
-        most = omega arith;
-        inside = λ l. marked-fit 13 _ mi e.1;
-        form = rw (e.0.0.0.0, e.0.0.0.1, e.0.0.1, e.0.1, e.1, z);
-      }
+          module _ {mi : ℕ} (e₅ : Value mi ≡ readMarked (code ":") (drop 13 s)) where
+            pub minute-read : Missing ≡ readMarked (code ":") (drop 16 s)
+                → FieldsAre s (fieldsRead 5 precision.HourAndMinute y mo d h mi 0)
+            unfolding readText
+            minute-read z =
+                record { most = omega arith; inside = λ l. marked-fit s 13 _ mi e₅; form = rw (← e₁, ← e₂, ← e₃, ← e₄, ← e₅, ← z) }
 
-  pub second-read : (y mo d h mi sec : ℕ) → Second y mo d h mi sec → FieldsAre s (fieldsRead 6 precision.Second y mo d h mi sec)
-  unfolding readText
-  second-read y mo d h mi sec e =
-      record {
-        most = omega arith;
-        inside = λ l. marked-fit 16 _ sec e.1;
-        form = rw (e.0.0.0.0.0, e.0.0.0.0.1, e.0.0.0.1, e.0.0.1, e.0.1, e.1);
-      }
+            pub second-read : {sec : ℕ} → Value sec ≡ readMarked (code ":") (drop 16 s)
+                → FieldsAre s (fieldsRead 6 precision.Second y mo d h mi sec)
+            unfolding readText
+            second-read {sec} e₆ =
+                record {
+                  most = omega arith;
+                  inside = λ l. marked-fit s 16 _ sec e₆;
+                  form = rw (← e₁, ← e₂, ← e₃, ← e₄, ← e₅, ← e₆);
+                }

@@ -74,7 +74,8 @@ module _ (P : BuilderFields → Type 0) where
       let n = digitRun r in
       on-test Holds (eqb n 0) (λ e. tt) (λ e. on-offset (withFraction f (digitsFraction n r)) (drop n r) (h (eqb-false n 0 e)))
 
-  pub on-second : (f : BuilderFields) (r : List ℕ) → AtOffset f r → (get_or r 0 0 ≡ code "." → AtDigits f (drop 1 r)) → Holds (endSecond f r)
+  pub on-second : (f : BuilderFields) (r : List ℕ) → AtOffset f r → (get_or r 0 0 ≡ code "." → AtDigits f (drop 1 r))
+      → Holds (endSecond f r)
   unfolding endSecond
   on-second f r h k =
       let b = get_or r 0 0 in
@@ -104,3 +105,6 @@ all-staged s =
 
 pub read-staged : (s : List ℕ) (f : BuilderFields) → readText s ≡ Form f → Staged f
 read-staged s f e = subst (Holds Staged) e (all-staged s)
+
+-- for the code
+pub ruleset staged = (read-staged)

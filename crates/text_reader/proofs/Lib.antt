@@ -9,4 +9,5 @@ mod Forms
 mod Numbers
 mod Offsets
 pub mod ReadBack
+mod Reading
 mod Runs

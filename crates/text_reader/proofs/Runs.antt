@@ -2,18 +2,15 @@
 use mathlib.Core.Path.{◌≡◌, refl, sym, ap, ◌∙◌}
 use mathlib.Core.Bool.{Bool, true, false, cond, ◌&&◌, and-true, and-eq-true_iff}
 use mathlib.Core.List.{List, [], ◌∷◌, ◌++◌}
-use Prim.Native.Nat.{ℕ, suc, ◌+◌, ◌-◌, ◌*◌, ◌≤◌, ◌<◌, min}
-use native.Mathlib.Numerals.{add-one}
+use Prim.Native.Nat.{ℕ, suc, ◌+◌, ◌-◌, ◌*◌, ◌≤◌, ◌<◌}
 use native.Mathlib.Omega.{arith}
-use native.Mathlib.Decide.{dec_lt}
-use borrow.Author.Tests.{lt-ltb, le-ltb, lt-leb, leb-true, eq-eqb, ne_eqb}
-use lib.Dec.{eqb, leb, ltb, leb-zero, leb-suc-zero, leb-suc-suc}
-use lib.ListN.{length, take, drop, get_or, length-drop, drop_of_length-le}
-use lib.Seq.{get_or-drop, drop-drop, drop-cons, take-suc, take-append_seam}
+use borrow.Author.Tests.{lt-leb, leb-true, eq-eqb, ne_eqb}
+use lib.Dec.{eqb, leb, leb-zero, leb-suc-zero, leb-suc-suc}
+use lib.ListN.{length, drop, get_or, length-drop}
+use lib.Seq.{get_or-drop, drop-drop, drop-cons, take-append_seam}
 use Rattle.places.specs.Places.{valueFrom}
 use Rattle.ion.specs.Text.ReadText.{isDigit, digitRun, digitOf, digitsValue, readDigits, readMarked, onValue}
 use Rattle.ion.specs.declared.DigitsRead.TheVariants.{Value, Missing}
-use Rattle.text_reader.specs.Parts.{RunIs}
 
 pub digit-within : (b : ℕ) → isDigit b ≡ true → (48 ≤ b) × (b ≤ 57)
 digit-within b e =
@@ -127,56 +124,10 @@ module _ (s : List ℕ) (at mark : ℕ) where
       let c : drop (at + 2) s ≡ get_or s (at + 2) 0 ∷ drop (suc (at + 2)) s = drop-cons s (at + 2) 0 (omega arith) in
       rw (at-mark, eq-eqb (get_or s at 0) mark e, drop-drop 1 at s, b, a, c) (two-alike (get_or s (at + 1) 0) (get_or s (at + 2) 0) _ [])
 
--- ---- what a loop over the digits of r has read: the first n of them, which make v
+-- ---- lists of laws, for the code
 
-value-append : (v : ℕ) (w : List ℕ) (b : ℕ) → valueFrom 10 digitOf v (w ++ (b ∷ [])) ≡ valueFrom 10 digitOf v w * 10 + digitOf b
-unfolding valueFrom
-value-append v [] b = refl
-value-append v (c ∷ w) b = value-append (v * 10 + digitOf c) w b
+pub ruleset digits = (digit-within, two-yes, two-no)
 
-value-more : (n : ℕ) (r : List ℕ) → n < length r → digitsValue (suc n) r ≡ digitsValue n r * 10 + digitOf (get_or r n 0)
-unfolding digitsValue
-value-more n r h = rw (take-suc r n 0 h) (value-append 0 (take n r) (get_or r n 0))
+pub ruleset marked_digits = (marked-short, marked-other, marked-two)
 
-pub record Read (r : List ℕ) (n v : ℕ) : Type 0 where
-  pub inside : n ≤ length r
-  pub run : digitRun r ≡ n + digitRun (drop n r)
-  pub value : v ≡ digitsValue (min n 18) r
-
-pub read-none : (r : List ℕ) → Read r 0 0
-unfolding digitsValue valueFrom
-read-none r = record { inside = omega arith; run = omega arith; value = refl }
-
-module _ {r : List ℕ} {n v : ℕ} (p : Read r n v) where
-  read-run : n < length r → (t : Bool) → isDigit (get_or r n 0) ≡ t → digitRun (drop n r) ≡ cond t (suc (digitRun (drop (n + 1) r))) 0
-  unfolding digitRun
-  read-run h t e = rw (drop-cons r n 0 h, add-one n, e)
-
-  ended : digitRun (drop n r) ≡ 0 → RunIs r (record { count = n; value = v })
-  ended z =
-      let c : n ≡ digitRun r = omega (arith, p.run) in
-      record { count = c; value = rw (← c) p.value }
-
-  -- no digit comes next, or nothing
-  pub read-stop : n < length r → isDigit (get_or r n 0) ≡ false → RunIs r (record { count = n; value = v })
-  read-stop h e = ended (read-run h false e)
-
-  pub read-end : length r ≤ n → RunIs r (record { count = n; value = v })
-  unfolding digitRun
-  read-end h = ended (rw (drop_of_length-le r h))
-
-  pub read-more : n < length r → isDigit (get_or r n 0) ≡ true → Read r (n + 1) (cond (ltb n 18) (v * 10 + digitOf (get_or r n 0)) v)
-  read-more h e = go (dec_lt n 18)
-    where
-      next : digitRun r ≡ n + 1 + digitRun (drop (n + 1) r)
-      next = omega (arith, p.run, read-run h true e)
-
-      go : Dec (n < 18) → Read r (n + 1) (cond (ltb n 18) (v * 10 + digitOf (get_or r n 0)) v)
-      go (yes l) =
-          let a : min n 18 ≡ n = omega arith in
-          let b : min (n + 1) 18 ≡ suc n = omega arith in
-          let w : v ≡ digitsValue n r = rw a at p.value in
-          rw (lt-ltb n 18 l) (record { inside = omega arith; run = next; value = rw (b, value-more n r h, ← w) })
-      go (no l) =
-          let b : min (n + 1) 18 ≡ min n 18 = omega arith in
-          rw (le-ltb n 18 (omega arith)) (record { inside = omega arith; run = next; value = rw b p.value })
+pub ruleset years = (digits-short, year-of)

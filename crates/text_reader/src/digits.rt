@@ -11,6 +11,7 @@ fn is_digit(b: u8) -> bool
     (b'0' <= b) & (b <= b'9')
 }
 
+#[tactic(auto, using(crate::proofs::Runs::digits))]
 fn two_digits(tens: u8, units: u8) -> DigitsRead
     ensures value { result ≡ readDigits 2 (tens ∷ units ∷ []) }
     ensures bound { Below 100 result }
@@ -22,6 +23,7 @@ fn two_digits(tens: u8, units: u8) -> DigitsRead
 }
 
 // A mark at index `at` and two digits.
+#[tactic(auto, using(crate::proofs::Runs::marked_digits))]
 pub(crate) fn read_marked(s: &[u8], at: usize, mark: u8) -> DigitsRead
     requires { at < 2 ^ 63 }
     ensures value { result ≡ readMarked mark (drop at s.now) }
@@ -37,6 +39,7 @@ pub(crate) fn read_marked(s: &[u8], at: usize, mark: u8) -> DigitsRead
 }
 
 // Four digits at the beginning.
+#[tactic(auto, using(crate::proofs::Runs::years))]
 pub(crate) fn read_year(s: &[u8]) -> DigitsRead
     ensures { result ≡ readDigits 4 s.now }
 {
@@ -71,6 +74,7 @@ fn one_more(value: u64, n: usize, b: u8) -> u64
 }
 
 // The digits from index `at` on.
+#[tactic(auto, using(crate::proofs::Reading::reading))]
 pub(crate) fn read_run(s: &[u8], at: usize) -> DigitRun
     requires { at ≤ length s.now }
     ensures { RunIs (drop at s.now) result }

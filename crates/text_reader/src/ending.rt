@@ -28,6 +28,7 @@ pub(crate) struct EndingRead {
 }
 
 // Whether the text ends in a T at index `at`, or there at once where that is allowed.
+#[tactic(auto, using(crate::proofs::Endings::ends_in_t))]
 fn ends_in_t(s: &[u8], at: usize, bare: bool) -> bool
     requires { at ≤ length s.now }
     ensures { result ≡ ((bare && same (drop at s.now) []) || same (drop at s.now) (ascii "T")) }
@@ -54,6 +55,7 @@ fn fraction_read(found: bool, attoseconds: u64, digits: u64, next: usize) -> Fra
 }
 
 // The fraction after `count` fields: only a second has one.
+#[tactic(auto, using(crate::proofs::Endings::fractions))]
 fn read_fraction(s: &[u8], count: usize) -> FractionRead
     requires { ((4 < count) × (count ≤ 6)) × (1 + 3 * count ≤ length s.now) }
     ensures { FractionIs s.now count result }
@@ -93,6 +95,7 @@ fn ending_read(found: bool, attoseconds: u64, digits: u64, offset: Offset) -> En
 }
 
 // How the form with `count` fields ends.
+#[tactic(auto, using(crate::proofs::Endings::endings))]
 pub(crate) fn read_ending(s: &[u8], count: usize) -> EndingRead
     requires { ((0 < count) × (count ≤ 6)) × (1 + 3 * count ≤ length s.now) }
     ensures { EndingIs s.now count result }

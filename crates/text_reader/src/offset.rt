@@ -20,6 +20,7 @@ fn is_rest(s: &[u8], at: usize, bytes: [u8; 6]) -> bool
         & (s[at + 5] == bytes[5])
 }
 
+#[tactic(auto, unfolding(ion::specs::Text::ReadText::signedClock))]
 fn signed_clock(sign: u8, hours: u32, minutes: u32) -> OffsetRead
     requires { (hours < 100) × (minutes < 100) }
     ensures { result ≡ signedClock sign hours minutes }
@@ -38,6 +39,7 @@ fn signed_clock(sign: u8, hours: u32, minutes: u32) -> OffsetRead
 }
 
 // A sign, hours and minutes in the last six bytes.
+#[tactic(auto, using(crate::proofs::Clocks::clocks))]
 fn read_clock(s: &[u8], at: usize) -> OffsetRead
     requires { at + 6 ≡ length s.now }
     ensures { result ≡ readClock (drop at s.now) }
@@ -53,6 +55,7 @@ fn read_clock(s: &[u8], at: usize) -> OffsetRead
 }
 
 // The offset that the text from index `at` on is, all of it.
+#[tactic(auto, using(crate::proofs::Clocks::offsets))]
 pub(crate) fn read_offset(s: &[u8], at: usize) -> OffsetRead
     requires { at ≤ length s.now }
     ensures { result ≡ readOffset (drop at s.now) }

@@ -37,6 +37,7 @@ fn read_form(s: &[u8]) -> TextRead
 }
 
 // Reads the timestamp whose text `s` is, all of it.
+#[tactic(auto, using(crate::proofs::Forms::staged), unfolding(ion::specs::Text::ReadText::readTextOf))]
 pub fn read_text(s: &[u8]) -> Built
     ensures { result ≡ readTextOf s.now }
 {

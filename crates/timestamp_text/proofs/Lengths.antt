@@ -164,9 +164,6 @@ pub ruleset texts = (
   valid-offset,
 )
 
--- one run of bytes after another
-pub ruleset runs = (run-two, length-exact, length-marked)
-
 pub ruleset fractions = (run-none, scale-pos, units-lt, count-most)
 
 pub ruleset offsets = (back-within, length-offset)

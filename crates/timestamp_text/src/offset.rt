@@ -10,7 +10,7 @@ use ion::offset::{Offset, OffsetMinutes, RawOffset};
 use text::text_formatter;
 
 // A sign, hours and minutes.
-#[tactic(auto, using(crate::proofs::Lengths::runs), unfolding(ion::specs::Text::Format::clockText))]
+#[tactic(auto, using(crate::proofs::Lengths::lengths))]
 fn put_clock(buf: &mut [u8], at: usize, sign: u8, minutes: u32) -> usize
     requires { (at + 6 ≤ length buf.old) × (minutes < 1440) }
     ensures { Run buf.old at (sign ∷ clockText minutes) buf.new result }

@@ -17,7 +17,6 @@ pub(crate) fn put_byte(buf: &mut [u8], at: usize, byte: u8) -> usize
     at + 1
 }
 
-#[tactic(auto, using(crate::proofs::Lengths::runs), unfolding(ion::specs::Text::Format::marked))]
 pub(crate) fn put_marked(buf: &mut [u8], at: usize, mark: u8, value: u32) -> usize
     requires { (at + 3 ≤ length buf.old) × (value < 100) }
     ensures { Run buf.old at (marked mark value) buf.new result }
