@@ -1,10 +1,12 @@
 -- Parts of a body that are acceptable are those of the fields and attoseconds that they give, which are valid. Assumes nothing.
 use mathlib.Core.Path.{◌≡◌, refl, sym, ap, ap₂, ◌∙◌}
+use mathlib.Core.Bool.{false}
 use Prim.Native.Nat.{ℕ, ◌*◌, ◌/◌, ◌^◌, ◌≤◌, ◌<◌, min}
 use native.Mathlib.Nat.{mul-mod_left, mul-div_cancel}
 use native.Mathlib.Omega.{arith}
 use Rattle.ion.specs.Pair.Offset.{WithinDay, rawOffset, offsetOf}
 use Rattle.ion.specs.Calendar.Shift.{IsDateTime}
+use Rattle.ion.specs.Pair.Word.{InRange}
 use Rattle.ion.specs.Pair.Fraction.{scale}
 use Rattle.ion.specs.Calls.Accepted.{Valid, timeIn}
 use Rattle.ion.specs.Calls.Utc.{withTime, utcBy, utcFields}
@@ -18,7 +20,9 @@ use Rattle.calendar.proofs.Shifts.{shifted-is, shift-back}
 use Rattle.calendar.proofs.FirstDay.{moved-room}
 use Rattle.fraction.proofs.Capped.{scaled-low}
 use Rattle.fraction.proofs.Scales.{scale-pos}
-use Rattle.value_reader.specs.BodyParts.{bodyFor, Encodable, Acceptable}
+use Rattle.timestamp.proofs.Valid.{valid-in-range}
+use Rattle.value_reader.specs.BodyParts.{bodyFor, Encodable, UtcInBounds, Acceptable}
+use Rattle.value_reader.proofs.ReadSteps.{outside, outside-false}
 
 -- ---- local fields f of an offset o and UTC fields u
 
@@ -110,3 +114,25 @@ module _ (x : Body) (p : Encodable x) (q : Acceptable x) where
       let c : attosecondsFrom x / scale f.digits ≡ x.coefficient = rw l.digits cancel in
       let u : utcBy (offsetOf f.offset) f ≡ x.utc = rw l.offset l.utc in
       λ i. record { offset = l.offset i; utc = u i; coefficient = c i }
+
+-- ---- as the code has them: the local fields f of parts whose UTC fields and local year passed their tests
+
+module _ (x : Body) (p : Encodable x) (b : UtcInBounds x) {f : Fields} (e : f ≡ localBy x.offset x.utc) (y : outside 1 9999 f.year ≡ false) where
+  pub parts-acceptable : Acceptable x
+  parts-acceptable =
+      let h = outside-false 1 9999 f.year y in
+      let k = ap (λ (g : Fields). g.year) e in
+      record { bounds = b; from-year = omega (arith, h, k); to-year = omega (arith, h, k) }
+
+  parts-valid : Valid f (attosecondsFrom x)
+  parts-valid = rw e (local-valid x p parts-acceptable)
+
+  pub parts-in-range : InRange f
+  parts-in-range = valid-in-range parts-valid
+
+  pub parts-attoseconds : attosecondsFrom x < 10 ^ 18
+  parts-attoseconds = omega (arith, parts-valid.attoseconds)
+
+-- ---- a list of laws, for the code
+
+pub ruleset local_fields = (parts-acceptable, parts-in-range, parts-attoseconds)

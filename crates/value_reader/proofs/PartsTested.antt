@@ -1,5 +1,5 @@
 -- The reader's tests of a body's parts, one after the other, decide whether its UTC fields are in bounds. Assumes nothing.
-use mathlib.Core.Path.{◌≡◌, refl}
+use mathlib.Core.Path.{◌≡◌, refl, subst}
 use mathlib.Core.Bool.{Bool, true, ◌&&◌}
 use Prim.Native.Nat.{ℕ, ◌^◌, ◌≤◌, ◌<◌, min}
 use native.Mathlib.Decide.{dec_le}
@@ -17,7 +17,7 @@ use Rattle.value_reader.specs.BodyParts.{UtcInBounds, offsetFits}
 
 -- ---- the tests
 
-abbrev pub partsTest : Body → Bool
+abbrev partsTest : Body → Bool
 partsTest x =
     leb x.utc.year 10000 && leb x.utc.hour 23 && leb x.utc.minute 59 && leb x.utc.second 59 && leb x.utc.digits 18
     && offsetFits x.utc.precision x.offset && ltb x.coefficient (10 ^ min x.utc.digits 18) && isDate (dateIn x.utc)
@@ -69,5 +69,9 @@ all-bounds x (((((((y, h), m), s), n), o), c), d) =
       known-late = o;
     }
 
-pub parts-decides : (x : Body) → Decides (partsTest x) (UtcInBounds x)
+parts-decides : (x : Body) → Decides (partsTest x) (UtcInBounds x)
 parts-decides x = let d = all-decides x in (λ t. all-bounds x (d.0 t), λ v. d.1 (bounds-all x v))
+
+-- so does what equals all tests
+pub bounds-by : (x : Body) (b : Bool) → partsTest x ≡ b → Decides b (UtcInBounds x)
+bounds-by x b e = subst (λ (b : Bool). Decides b (UtcInBounds x)) e (parts-decides x)

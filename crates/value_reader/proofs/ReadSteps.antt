@@ -1,21 +1,19 @@
 -- The reader's tests of the bytes before a body, one after the other. Assumes nothing.
-use mathlib.Core.Path.{◌≡◌, refl, sym, ◌∙◌}
+use mathlib.Core.Path.{◌≡◌, refl, sym}
 use mathlib.Core.Bool.{Bool, true, false, ◌||◌, false≢true}
 use mathlib.Core.List.{List, [], ◌∷◌}
 use Prim.Native.Nat.{ℕ, ◌+◌, ◌-◌, ◌≤◌, ◌<◌}
+use native.Mathlib.Omega.{arith}
 use borrow.Author.Tests.{lt-ltb, le-ltb, ltb-false, ne_eqb}
 use lib.Dec.{ltb}
-use lib.ListN.{length, take}
+use lib.ListN.{length, take, drop, get_or}
 use Rattle.ion.specs.Calls.Refusal.{inputEnds, firstByteRefused, bodyRefused}
 use Rattle.ion.specs.Value.ReadValue.{refusedReading, readBody, readAfter, readLength, readValue}
 
--- ---- a number that is outside its bounds, and one that is not
+-- ---- a number that is within its bounds
 
 abbrev pub outside : ℕ → ℕ → ℕ → Bool
 outside least most n = ltb n least || ltb most n
-
-pub outside-true : (l m n : ℕ) → outside l m n ≡ true → l ≤ n → n ≤ m → ⊥
-outside-true l m n e h k = false≢true (sym (rw (le-ltb n l h, le-ltb m n k)) ∙ e)
 
 pub outside-false : (l m n : ℕ) → outside l m n ≡ false → (l ≤ n) × (n ≤ m)
 outside-false l m n e = go (ltb n l) (ltb m n) refl refl e
@@ -35,34 +33,45 @@ pub after-whole : (k n : ℕ) (s : List ℕ) → n ≤ length s → readAfter k 
 unfolding readAfter
 after-whole k n s h = rw (le-ltb (length s) n h)
 
--- ---- its length, after 6E
+-- ---- the value with which s begins, as the code finds it
 
-pub length-none : readLength [] ≡ refusedReading inputEnds
-unfolding readLength
-length-none = refl
-
-pub length-outside : (c : ℕ) (s : List ℕ) → outside 0x8e 0x92 c ≡ true → readLength (c ∷ s) ≡ refusedReading bodyRefused
-unfolding readLength
-length-outside c s e = rw e
-
-pub length-is : (c : ℕ) (s : List ℕ) → outside 0x8e 0x92 c ≡ false → readLength (c ∷ s) ≡ readAfter 2 (c - 0x80) s
-unfolding readLength
-length-is c s e = rw e
-
--- ---- the first byte
-
-pub first-none : readValue [] ≡ refusedReading inputEnds
+pub value-none : (s : List ℕ) → length s ≡ 0 → readValue s ≡ refusedReading inputEnds
 unfolding readValue
-first-none = refl
+value-none [] h = refl
+value-none (d ∷ s) h = absurd (omega arith)
 
-pub first-outside : (d : ℕ) (s : List ℕ) → outside 0x60 0x6e d ≡ true → readValue (d ∷ s) ≡ refusedReading firstByteRefused
+pub value-first : (s : List ℕ) → 0 < length s → outside 0x60 0x6e (get_or s 0 0) ≡ true → readValue s ≡ refusedReading firstByteRefused
 unfolding readValue
-first-outside d s e = rw e
+value-first [] h e = absurd (omega arith)
+value-first (d ∷ s) h e = rw e
 
-pub first-long : (d : ℕ) (s : List ℕ) → d ≡ 0x6e → readValue (d ∷ s) ≡ readLength s
+pub value-short : (s : List ℕ) → 0 < length s → outside 0x60 0x6e (get_or s 0 0) ≡ false → (get_or s 0 0 ≡ 0x6e → ⊥)
+    → readValue s ≡ readAfter 1 (get_or s 0 0 - 0x60) (drop 1 s)
 unfolding readValue
-first-long d s e = rw e
+value-short [] h e n = absurd (omega arith)
+value-short (d ∷ s) h e n = rw (e, ne_eqb d 0x6e n)
 
-pub first-short : (d : ℕ) (s : List ℕ) → outside 0x60 0x6e d ≡ false → (d ≡ 0x6e → ⊥) → readValue (d ∷ s) ≡ readAfter 1 (d - 0x60) s
-unfolding readValue
-first-short d s e n = rw (e, ne_eqb d 0x6e n)
+-- the length that follows 6E
+pub value-cut : (s : List ℕ) → length s ≡ 1 → get_or s 0 0 ≡ 0x6e → readValue s ≡ refusedReading inputEnds
+unfolding readValue readLength
+value-cut [] h e = absurd (omega arith)
+value-cut (d ∷ []) h e = rw e
+value-cut (d ∷ c ∷ s) h e = absurd (omega arith)
+
+pub value-outside : (s : List ℕ) → 1 < length s → get_or s 0 0 ≡ 0x6e → outside 0x8e 0x92 (get_or s 1 0) ≡ true
+    → readValue s ≡ refusedReading bodyRefused
+unfolding readValue readLength
+value-outside [] h e k = absurd (omega arith)
+value-outside (d ∷ []) h e k = absurd (omega arith)
+value-outside (d ∷ c ∷ s) h e k = rw (e, k)
+
+pub value-long : (s : List ℕ) → 1 < length s → get_or s 0 0 ≡ 0x6e → outside 0x8e 0x92 (get_or s 1 0) ≡ false
+    → readValue s ≡ readAfter 2 (get_or s 1 0 - 0x80) (drop 2 s)
+unfolding readValue readLength
+value-long [] h e k = absurd (omega arith)
+value-long (d ∷ []) h e k = absurd (omega arith)
+value-long (d ∷ c ∷ s) h e k = rw (e, k)
+
+-- ---- a list of laws, for the code
+
+pub ruleset values = (value-none, value-first, value-short, value-cut, value-outside, value-long)

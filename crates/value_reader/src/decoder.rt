@@ -63,6 +63,7 @@ fn no_fields() -> FieldsRead
 }
 
 // Up to six fields from index `at` on.
+#[tactic(auto, using(crate::proofs::FieldSteps::fields))]
 fn read_fields(s: &[u8], at: usize) -> FieldsRead
     ensures { FieldsAre s.now (decodeFields 6 (drop at s.now)) result }
 {
@@ -104,6 +105,7 @@ fn read_coefficient(s: &[u8], at: usize, digits: u32) -> FractionRead
 }
 
 // The fraction that the bytes from index `at` on are, all of them.
+#[tactic(auto, using(crate::proofs::FieldSteps::fractions))]
 fn read_fraction(s: &[u8], at: usize) -> FractionRead
     ensures { fractionIn result ≡ decodeFraction (drop at s.now) }
 {
@@ -124,6 +126,7 @@ fn read_fraction(s: &[u8], at: usize) -> FractionRead
 }
 
 // The precision with a number of fields.
+#[tactic(auto, unfolding(ion::specs::Value::Decode::precisionWith))]
 fn precision_with(count: usize) -> u32
     requires { count ≤ 6 }
     ensures { result ≡ precisionWith count }
@@ -156,6 +159,7 @@ fn fields_from(values: [u32; 6], count: usize, digits: u32) -> Fields
 }
 
 // The parts of a body that has fields and a fraction from index `at` on.
+#[tactic(auto, using(crate::proofs::FieldSteps::bodies))]
 fn after_offset(s: &[u8], at: usize, offset: Offset) -> BodyRead
     ensures { bodyIn result ≡ afterOffset offset (decodeFields 6 (drop at s.now)) }
 {
@@ -176,6 +180,7 @@ fn after_offset(s: &[u8], at: usize, offset: Offset) -> BodyRead
 }
 
 // The parts of the body that `s` is, all of it.
+#[tactic(auto, using(crate::proofs::FieldSteps::parts))]
 pub(crate) fn decode_body(s: &[u8]) -> BodyRead
     ensures { bodyIn result ≡ decodeBody s.now }
 {

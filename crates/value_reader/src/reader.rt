@@ -73,6 +73,7 @@ fn local_fields(x: Body) -> Fields
 }
 
 // The timestamp of parts, with which `taken` bytes are taken. Its local year decides, not the UTC year.
+#[tactic(auto, using(crate::proofs::LocalFields::local_fields), unfolding(ion::specs::Value::Decode::pairFrom))]
 fn read_parts(x: Body, taken: usize) -> Read
     requires { Encodable x }
     ensures { PartsRead x taken result }
@@ -95,6 +96,7 @@ fn read_parts(x: Body, taken: usize) -> Read
 }
 
 // The timestamp of a body of `n` bytes from index `at` on.
+#[tactic(auto, using(crate::proofs::PartsReadings::readings))]
 fn read_after(s: &[u8], at: usize, n: usize) -> Read
     requires { at ≤ length s.now }
     ensures { result ≡ readAfter at n (drop at s.now) }
@@ -110,6 +112,7 @@ fn read_after(s: &[u8], at: usize, n: usize) -> Read
 }
 
 // Reads the value with which `s` begins. Bytes after it are not read.
+#[tactic(auto, using(crate::proofs::ReadSteps::values))]
 pub fn read_value(s: &[u8]) -> Read
     ensures { result ≡ readValue s.now }
 {
