@@ -16,7 +16,8 @@ use Rattle.ion.specs.Numbers.VarUInt.{readVarUInt}
 use Rattle.ion.specs.Numbers.VarInt.{readVarInt}
 use Rattle.ion.specs.Numbers.Int.{readInt}
 use Rattle.ion.specs.Value.Decode.{Decoded, found, nothing, oneMore, fieldFrom, decodeFields, coefficientFrom, fractionFrom, decodeFraction}
-use Rattle.ion.specs.Value.Decode.{signedOffset, decodeOffset, decodeBody, firstValues, filled, precisionWith, isFieldCount, fieldsFrom, bodyWith, afterFields, afterOffset}
+use Rattle.ion.specs.Value.Decode.{signedOffset, decodeOffset, decodeBody}
+use Rattle.ion.specs.Value.Decode.{firstValues, filled, precisionWith, isFieldCount, fieldsFrom, bodyWith, afterFields, afterOffset}
 use Rattle.ion.specs.declared.Fields.{Fields}
 use Rattle.ion.specs.declared.Body.{Body}
 use Rattle.ion.specs.declared.VarUIntRead.{VarUIntRead}

@@ -117,7 +117,8 @@ module _ (x : Body) (p : Encodable x) (q : Acceptable x) where
 
 -- ---- as the code has them: the local fields f of parts whose UTC fields and local year passed their tests
 
-module _ (x : Body) (p : Encodable x) (b : UtcInBounds x) {f : Fields} (e : f ≡ localBy x.offset x.utc) (y : outside 1 9999 f.year ≡ false) where
+module _ (x : Body) (p : Encodable x) (b : UtcInBounds x) {f : Fields} (e : f ≡ localBy x.offset x.utc)
+    (y : outside 1 9999 f.year ≡ false) where
   pub parts-acceptable : Acceptable x
   parts-acceptable =
       let h = outside-false 1 9999 f.year y in
