@@ -3,9 +3,10 @@ use mathlib.Core.Path.{◌≡◌, refl, sym, ap, ◌∙◌}
 use mathlib.Core.List.{List, [], ◌∷◌, ◌++◌}
 use Prim.Native.Nat.{ℕ, ◌+◌, ◌-◌, ◌≤◌, ◌<◌}
 use native.Mathlib.Omega.{arith}
-use lib.ListN.{length, drop, length-append}
+use lib.ListN.{length, take, drop, length-append}
 use Rattle.ion.specs.Calls.Contents.{Contents, contentsWith}
 use Rattle.ion.proofs.Answers.{answered-zero, answered-refused}
+use Rattle.places.proofs.Slices.{rest-slice}
 use Rattle.contents.proofs.Readers.{ReadsAs}
 use Rattle.contents.proofs.Passing.{Passed, pass-start, pass-next, pass-within, pass-less, pass-stop, pass-end}
 use Rattle.scans.specs.Scan.{readScan}
@@ -43,7 +44,10 @@ module _ {s : List ℕ} {at n : ℕ} (p : Checked s at n) where
   finish h = rw p.count (sym (file-whole s (pass-end p.passed h)))
 
   -- the reader's answer to what is left
-  module _ {r : ScanRead} (e : r ≡ readScan (drop at s)) where
+  module _ {r : ScanRead} (read : r ≡ readScan (take (length s - at) (drop at s))) where
+    e : r ≡ readScan (drop at s)
+    e = read ∙ ap readScan (rest-slice s at)
+
     pub stop : at < length s → (r.number ≡ 0 → ⊥) → refusedFile r.number ≡ checkFileOf s
     unfolding contentsOf
     stop h z = sym (file-damaged s (pass-stop p.passed h (ap (λ (r : ScanRead). r.number) (sym e)) z) z)
@@ -71,3 +75,6 @@ module _ {s : List ℕ} {at n : ℕ} (p : Checked s at n) where
             count = omega (arith, p.count, length-append p.scans (r.scan ∷ []));
             few = omega (arith, p.few, less, within);
           }
+
+-- for the code
+pub ruleset checking = (start, next)

@@ -1,3 +1,4 @@
 -- What the proofs of several functions use.
-mod Checked
-mod Parts
+pub mod Checked
+pub mod Parts
+pub mod ReadParts

@@ -6,6 +6,7 @@ use crate::reader::read_scan;
 use scans::FileRead;
 
 // Reads a file to its end, or to its damage: how many scans it holds.
+#[tactic(auto, using(crate::proofs::Checked::checking))]
 pub fn check_file(s: &[u8]) -> FileRead
     ensures { result ≡ checkFileOf s.now }
 {

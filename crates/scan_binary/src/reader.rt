@@ -21,6 +21,7 @@ fn refused_number(number: u32) -> NumberRead
 }
 
 // Reads the tag or the guard with which `s` begins.
+#[tactic(auto, using(scan_laws::proofs::Numbers::found), unfolding(scans::specs::Number::readNumber))]
 fn read_number(s: &[u8]) -> NumberRead
     ensures { result ≡ readNumber s.now }
 {

@@ -88,3 +88,11 @@ module _ (s : List ℕ) where
   number-refused =
       by-found (λ r. (r.number ≡ 0 → ⊥) → (r.number ≡ inputEnds) ⊎ (r.number ≡ numberRefused)) (λ v n q h. absurd (h refl))
       (λ q h. inl refl) (λ q h. inr refl)
+
+-- ---- lists of laws, for the code
+
+-- what was found has at most 32 bits
+pub found-small : (s : List ℕ) {v n : ℕ} → Below 256 s → Value v n ≡ readVarUInt largest s → v ≤ largest
+found-small s {v} {n} b e = (read-varuint-is largest s v n b (sym e)).0
+
+pub ruleset found = (found-small)

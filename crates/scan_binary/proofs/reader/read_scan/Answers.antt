@@ -1,44 +1,50 @@
-use Rattle.std.proofs.Common.{rules, ◌≡◌, ℕ, ◌+◌, ◌-◌, ◌*◌, ◌<◌, ◌≤◌, length, ◌/◌, ◌%◌, Bool, true, false, nat_eq, nat_lt, List, [], ◌∷◌, ◌++◌, slice_index_or, slice_set, bit_and, bit_or, Fits, w8, w32, w64, Bor, MutBor}
-use Rattle.scans.specs.Number.{refusedNumber, readNumber}
-use Rattle.scans.specs.Scan.{refusedScan, readScan}
+-- `reader::read_scan` meets its contract.
+use Rattle.std.proofs.Common.{◌∙◌, rules}
+use Rattle.scan_binary.proofs.ReadParts.{refused-tag, after-tag, refused-guard, after-guard, refused-value, after-value, whole}
 use Rattle.scan_binary.proofs.reader.read_scan.Goals as goal
 
--- src/reader.rt:62:9
 pub returns-then-tag-ne0 : goal.returns-then-tag-ne0
-returns-then-tag-ne0 c = ?
+returns-then-tag-ne0 c = c.refused.ensures ∙ refused-tag c.args.s.now c.read_number-tag.ensures c.if-tag-ne0.true
 
--- src/reader.rt:65:29
 pub slice_bounds-read_number-count-2 : goal.slice_bounds-read_number-count-2
-slice_bounds-read_number-count-2 c = ?
+slice_bounds-read_number-count-2 c = after-tag c.args.s.now c.read_number-tag.ensures c.if-tag-ne0.false
 
--- src/reader.rt:65:29
 pub slice_bounds-read_number-start-2 : goal.slice_bounds-read_number-start-2
-slice_bounds-read_number-start-2 c = ?
+slice_bounds-read_number-start-2 c = let h = after-tag c.args.s.now c.read_number-tag.ensures c.if-tag-ne0.false in search (rules, h)
 
--- src/reader.rt:67:9
 pub returns-then-guard-ne0 : goal.returns-then-guard-ne0
-returns-then-guard-ne0 c = ?
+returns-then-guard-ne0 c =
+    c.refused-then-guard-ne0.ensures
+    ∙ refused-guard c.args.s.now c.read_number-tag.ensures c.if-tag-ne0.false c.read_number-guard.ensures c.if-guard-ne0.true
 
--- src/reader.rt:69:14
 pub overflow_add-at : goal.overflow_add-at
-overflow_add-at c = ?
+overflow_add-at c =
+    let h = after-guard c.args.s.now c.read_number-tag.ensures c.if-tag-ne0.false c.read_number-guard.ensures c.if-guard-ne0.false in
+    search (rules, h)
 
--- src/reader.rt:70:42
 pub slice_bounds-read_value-count : goal.slice_bounds-read_value-count
-slice_bounds-read_value-count c = ?
+slice_bounds-read_value-count c =
+    after-guard c.args.s.now c.read_number-tag.ensures c.if-tag-ne0.false c.read_number-guard.ensures c.if-guard-ne0.false
 
--- src/reader.rt:70:42
 pub slice_bounds-read_value-start : goal.slice_bounds-read_value-start
-slice_bounds-read_value-start c = ?
+slice_bounds-read_value-start c =
+    let h = after-guard c.args.s.now c.read_number-tag.ensures c.if-tag-ne0.false c.read_number-guard.ensures c.if-guard-ne0.false in
+    search (rules, h)
 
--- src/reader.rt:72:9
 pub returns-then-value-ne0 : goal.returns-then-value-ne0
-returns-then-value-ne0 c = ?
+returns-then-value-ne0 c =
+    c.refused-then-value-ne0.ensures
+    ∙ refused-value c.args.s.now c.read_number-tag.ensures c.if-tag-ne0.false c.read_number-guard.ensures c.if-guard-ne0.false
+    c.read_value-value.ensures c.if-value-ne0.true
 
--- src/reader.rt:85:16
 pub overflow_add-result : goal.overflow_add-result
-overflow_add-result c = ?
+overflow_add-result c =
+    let h =
+    after-value c.args.s.now c.read_number-tag.ensures c.if-tag-ne0.false c.read_number-guard.ensures c.if-guard-ne0.false
+    c.read_value-value.ensures c.if-value-ne0.false in
+    search (rules, h)
 
--- src/reader.rt:56:1
 pub returns : goal.returns
-returns c = ?
+returns c =
+    whole c.args.s.now c.read_number-tag.ensures c.if-tag-ne0.false c.read_number-guard.ensures c.if-guard-ne0.false
+    c.read_value-value.ensures c.if-value-ne0.false
