@@ -5,8 +5,8 @@ ghost use Rattle.ion.specs.Pair.Pair.{packedPair};
 ghost use Rattle.test_results.specs.Answers.{BuiltIs};
 ghost use Rattle.test_field_sets.specs.FieldSets.{fieldSet, builtFrom};
 
-use test_results::{pair, store_built};
 use test_field_sets::{FieldSet, build_from};
+use test_results::{pair, store_built};
 
 #[unsafe(no_mangle)]
 pub extern "C" fn timestamp_build(

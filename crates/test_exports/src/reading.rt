@@ -5,11 +5,12 @@ ghost use Rattle.ion.specs.Calls.Reads.{attosecondsFieldOf, decimalFieldOf, offs
 ghost use Rattle.test_results.specs.Answers.{FieldIs, AttosecondsIs, DecimalIs, OffsetIs};
 ghost use Rattle.test_exports.specs.Reading.{fieldBy};
 
-use test_results::{pair, store_attoseconds, store_decimal, store_field, store_offset};
 use ion::{Field, Timestamp};
 use test_field_sets::UNKNOWN_CODE;
+use test_results::{pair, store_attoseconds, store_decimal, store_field, store_offset};
 
 // The field of a code.
+#[tactic(auto, unfolding(crate::specs::Reading::fieldBy))]
 fn field_by(code: u32, s: Timestamp) -> Field
     ensures { result ≡ fieldBy code s }
 {

@@ -12,8 +12,8 @@ ghost use Rattle.ion.specs.Numbers.VarInt.{varint};
 ghost use Rattle.ion.specs.Numbers.VarUInt.{varuint};
 ghost use Rattle.test_results.specs.Answers.{BuiltIs, WrittenIs, ReadIs};
 
-use test_results::{pair, store_built, store_read, store_written};
 use binary::{var_int, var_uint};
+use test_results::{pair, store_built, store_read, store_written};
 use text::text_formatter;
 
 #[unsafe(no_mangle)]
