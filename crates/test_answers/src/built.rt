@@ -9,6 +9,7 @@ use ion::Built;
 use test_field_sets::FieldSet;
 
 // Whether an answer is the number and the pair from index `at` on.
+#[tactic(auto, unfolding(crate::specs::Agreement::isBuilt))]
 pub(crate) fn is_built(a: Built, r: &[u8], at: usize) -> bool
     requires { at < 300 }
     ensures { result ≡ isBuilt a r.now at }
@@ -20,6 +21,7 @@ pub(crate) fn is_built(a: Built, r: &[u8], at: usize) -> bool
 }
 
 // Whether the second byte is a sum of 1, 2 and 4, and a fraction that is no decimal has numbers of 32 bits.
+#[tactic(auto, unfolding(crate::specs::Fields::isFieldSet))]
 fn is_field_set(r: &[u8]) -> bool
     ensures { result ≡ isFieldSet r.now }
 {
@@ -28,6 +30,7 @@ fn is_field_set(r: &[u8]) -> bool
     (number_at(r, 1) < 8) & (is_decimal | is_short)
 }
 
+#[tactic(auto, unfolding(crate::specs::Fields::fieldSetAt))]
 fn field_set_at(r: &[u8]) -> FieldSet
     ensures { result ≡ fieldSetAt r.now }
 {
@@ -53,18 +56,21 @@ fn field_set_at(r: &[u8]) -> FieldSet
     }
 }
 
+#[tactic(auto, unfolding(crate::specs::Agreement::buildAgrees))]
 pub fn build_agrees(r: &[u8]) -> bool
     ensures { result ≡ buildAgrees r.now }
 {
     is_field_set(r) & is_built(test_field_sets::build_from(field_set_at(r)), r, 48)
 }
 
+#[tactic(auto, unfolding(crate::specs::Agreement::checkAgrees))]
 pub fn check_agrees(r: &[u8]) -> bool
     ensures { result ≡ checkAgrees r.now }
 {
     is_built(timestamp::check(pair_at(r, 0)), r, 16)
 }
 
+#[tactic(auto, unfolding(crate::specs::Agreement::utcAgrees))]
 pub fn utc_agrees(r: &[u8]) -> bool
     ensures { result ≡ utcAgrees r.now }
 {

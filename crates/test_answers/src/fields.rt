@@ -21,6 +21,7 @@ pub fn count_at(s: &[u8], at: usize) -> usize
     number_at(s, at) as usize
 }
 
+#[tactic(auto, unfolding(crate::specs::Fields::halfAt))]
 pub fn half_at(s: &[u8], at: usize) -> u32
     requires { at < 1000 }
     ensures { result ≡ halfAt s.now at }
@@ -32,6 +33,7 @@ pub fn half_at(s: &[u8], at: usize) -> u32
     ((b0 * 256 + b1) * 256 + b2) * 256 + b3
 }
 
+#[tactic(auto, unfolding(crate::specs::Fields::wordAt))]
 pub fn word_at(s: &[u8], at: usize) -> u64
     requires { at < 500 }
     ensures { result ≡ wordAt s.now at }
@@ -39,6 +41,7 @@ pub fn word_at(s: &[u8], at: usize) -> u64
     half_at(s, at) as u64 * 4_294_967_296 + half_at(s, at + 4) as u64
 }
 
+#[tactic(auto, unfolding(crate::specs::Fields::recordedPair))]
 pub fn pair_at(s: &[u8], at: usize) -> Timestamp
     requires { at < 400 }
     ensures { result ≡ recordedPair s.now at }
@@ -50,6 +53,7 @@ pub fn pair_at(s: &[u8], at: usize) -> Timestamp
 }
 
 // An order or a sign: 00, 01, or FF for -1. What else stands there is 2, which no call answers.
+#[tactic(auto, unfolding(crate::specs::Fields::signAt))]
 pub(crate) fn sign_at(s: &[u8], at: usize) -> i32
     ensures { result ≡ signAt s.now at }
 {

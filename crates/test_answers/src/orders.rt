@@ -5,6 +5,7 @@ ghost use Rattle.test_answers.specs.Agreement.{isOrdered, isCompared, orderAgree
 use crate::fields::{number_at, pair_at, sign_at, word_at};
 use ion::{Compared, Ordered};
 
+#[tactic(auto, unfolding(crate::specs::Agreement::isOrdered))]
 fn is_ordered(a: Ordered, r: &[u8], at: usize) -> bool
     ensures { result ≡ isOrdered a r.now at }
 {
@@ -19,12 +20,14 @@ fn flag_of(b: bool) -> u32
 }
 
 // A byte of 1 says equal, 0 says not.
+#[tactic(auto, unfolding(crate::specs::Agreement::isCompared))]
 fn is_compared(a: Compared, r: &[u8], at: usize) -> bool
     ensures { result ≡ isCompared a r.now at }
 {
     (a.number == number_at(r, 32)) & (number_at(r, at) == flag_of(a.equal))
 }
 
+#[tactic(auto, unfolding(crate::specs::Agreement::orderAgrees))]
 pub fn order_agrees(r: &[u8]) -> bool
     ensures { result ≡ orderAgrees r.now }
 {
@@ -35,6 +38,7 @@ pub fn order_agrees(r: &[u8]) -> bool
     instants & pairs
 }
 
+#[tactic(auto, unfolding(crate::specs::Agreement::distanceAgrees))]
 pub fn distance_agrees(r: &[u8]) -> bool
     ensures { result ≡ distanceAgrees r.now }
 {

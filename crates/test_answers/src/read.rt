@@ -6,6 +6,7 @@ use crate::built::is_built;
 use crate::fields::count_at;
 use ion::Built;
 
+#[tactic(auto, unfolding(crate::specs::Agreement::readAgrees))]
 pub fn read_agrees(r: &[u8]) -> bool
     ensures { result ≡ readAgrees r.now }
 {
@@ -21,6 +22,7 @@ pub fn read_agrees(r: &[u8]) -> bool
     is_built(answer, r, 0) & (a.taken == count_at(r, 17))
 }
 
+#[tactic(auto, unfolding(crate::specs::Agreement::textAgrees))]
 pub fn text_agrees(r: &[u8]) -> bool
     ensures { result ≡ textAgrees r.now }
 {
