@@ -6,6 +6,7 @@ use scans::Scan;
 use test_answers::{count_at, half_at, number_at, pair_at};
 
 // A scan among a record's bytes: tag, guard and pair.
+#[tactic(auto, unfolding(crate::specs::Agreement::recordedScan))]
 pub(crate) fn scan_at(r: &[u8], at: usize) -> Scan
     requires { at < 100 }
     ensures { result ≡ recordedScan r.now at }
@@ -27,6 +28,7 @@ fn is_same(x: Scan, y: Scan) -> bool
         & ((s.packed_fields == t.packed_fields) & (s.attoseconds == t.attoseconds))
 }
 
+#[tactic(auto, unfolding(crate::specs::Agreement::scanAgrees))]
 pub(crate) fn scan_agrees(r: &[u8]) -> bool
     ensures { result ≡ scanAgrees r.now }
 {
@@ -38,6 +40,7 @@ pub(crate) fn scan_agrees(r: &[u8]) -> bool
     (a.number == number_at(r, 0)) & is_same(scan, scan_at(r, 1)) & (a.taken == count_at(r, 25))
 }
 
+#[tactic(auto, unfolding(crate::specs::Agreement::fileAgrees))]
 pub(crate) fn file_agrees(r: &[u8]) -> bool
     ensures { result ≡ fileAgrees r.now }
 {

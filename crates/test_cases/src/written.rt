@@ -53,12 +53,10 @@ fn byte_due(bytes: &[u8], i: usize) -> u8 {
 }
 
 fn holds(buf: &[u8], bytes: &[u8]) -> bool {
-    let mut i = 0;
-    while i < buf.len() {
-        if buf[i] != byte_due(bytes, i) {
+    for (i, b) in buf.iter().enumerate() {
+        if *b != byte_due(bytes, i) {
             return false;
         }
-        i += 1;
     }
     true
 }
