@@ -10,6 +10,9 @@ ghost use Rattle.ion.specs.Text.Format.{textOf};
 use ion::{Timestamp, refusal};
 use text::text_formatter;
 
+// The longest input that is listed.
+const MAX_INPUT: usize = 65_536;
+
 // Puts a text and a line feed from index `at` on; the index after them.
 fn put_text(buf: &mut [u8], at: usize, s: Timestamp) -> usize
     requires { (at + 45 ≤ length buf.old) × Accepted s }
@@ -34,12 +37,13 @@ fn put_stop(buf: &mut [u8], at: usize, number: u32) -> usize
 }
 
 // Lists the values of `input` from the start of `buf` on; how many bytes that takes.
+#[tactic(auto, using(crate::proofs::Listed::listing))]
 pub fn list(input: &[u8], buf: &mut [u8]) -> usize
     requires { 15 * length input.now + 8 ≤ length buf.old }
     ensures run { Run buf.old 0 (outputOf input.now) buf.new result }
     ensures bound { result ≤ length buf.old }
 {
-    if 65_536 < input.len() {
+    if MAX_INPUT < input.len() {
         return put_stop(buf, 0, refusal::LONG_INPUT);
     }
     let mut at = 0;
