@@ -3,3 +3,4 @@ mod Lines
 mod Numbers
 mod Puts
 mod Listed
+mod Inputs

@@ -1,13 +1,16 @@
 // The lines that the program `stamps` prints for an input.
 #![tactic(auto)]
 
-ghost use Rattle.std.specs.Prelude.{◌+◌, ◌*◌, ◌≤◌, ◌<◌, length};
+ghost use Rattle.std.specs.Prelude.{◌+◌, ◌*◌, ◌≤◌, ◌<◌, ◌≡◌, length, IfOk, OnOk, IfSome};
+ghost use Rattle.std.specs.Io.KnownBytes.{Appends};
 ghost use Rattle.ion.specs.Calls.Accepted.{Accepted};
 ghost use Rattle.ion.specs.Calls.Output.{Run};
 ghost use Rattle.ion.specs.Calls.Stamps.{lineOf, stopLine, outputOf};
 ghost use Rattle.ion.specs.Text.Format.{textOf};
 
 use ion::{Timestamp, refusal};
+use std::alloc::Global;
+use std::io::{self, Read, Write};
 use text::text_formatter;
 
 // The longest input that is listed.
@@ -58,4 +61,30 @@ pub fn list(input: &[u8], buf: &mut [u8]) -> usize
         at += r.taken;
     }
     end
+}
+
+// Reads what decides the output: the input, or of a longer one the first bytes, one more than an input may have.
+fn read_input<R: Read>(alloc: Global, reader: R) -> io::Result<Vec<u8>>
+where
+    R: Drop,
+    ensures bytes { IfOk result (λ v. IfSome (R.remaining reader) (λ xs. outputOf v.items ≡ outputOf xs)) }
+    ensures bound { IfOk result (λ v. length v.items ≤ 65537) }
+{
+    let most = MAX_INPUT + 1;
+    let mut input = Vec::new(alloc);
+    reader.take(most as u64).read_to_end(&mut input)?;
+    input.truncate(most);
+    Ok(input)
+}
+
+// Writes the listing of all that `reader` gives.
+pub fn run<R: Read, W: Write>(alloc: Global, reader: R, writer: &mut W) -> io::Result<()>
+where
+    R: Drop,
+    ensures { OnOk result (IfSome (R.remaining reader) (λ xs. Appends (W.contents writer.old) (W.contents writer.new) (outputOf xs))) }
+{
+    let input = read_input(alloc, reader)?;
+    let mut output = vec![in alloc; 0u8; 15 * input.len() + 8]?;
+    let end = list(&input, &mut output);
+    writer.write_all(&output[..end])
 }
