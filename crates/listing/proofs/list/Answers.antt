@@ -21,7 +21,8 @@ returns-then-number-ne0-clause-run c =
 pub put_text-end-requires : goal.put_text-end-requires
 put_text-end-requires c =
     let p = c.loop-at.invariant in
-    (omega (arith, line-room p c.read_value-r.ensures c.if-number-ne0.false, size p), accepted p c.read_value-r.ensures c.if-number-ne0.false)
+    let room = line-room p c.read_value-r.ensures c.if-number-ne0.false in
+    (omega (arith, room, size p), accepted p c.read_value-r.ensures c.if-number-ne0.false)
 
 pub overflow_add-at : goal.overflow_add-at
 overflow_add-at c = let h = within c.loop-at.invariant c.read_value-r.ensures c.if-number-ne0.false in search (rules, h)
