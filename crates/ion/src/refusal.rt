@@ -38,3 +38,9 @@ pub const LONG_INPUT: u32 = 17;
 pub const FORM: u32 = 18;
 // Number of a scan padded, without an end mark in five bytes, or above 4,294,967,295.
 pub const NUMBER: u32 = 19;
+// Fewer words than the report needs.
+pub const WORDS: u32 = 20;
+// W above 86,400 seconds.
+pub const WINDOW: u32 = 21;
+// A 257th tag.
+pub const TAGS: u32 = 22;

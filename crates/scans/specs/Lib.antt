@@ -2,3 +2,5 @@
 pub mod Number
 pub mod Scan
 pub mod File
+pub mod Tally
+pub mod Report

@@ -11,6 +11,25 @@ pub struct Scan {
     pub stamp: Timestamp,
 }
 
+// What a scan is beside the last kept scan of its tag. A gap and a backward step are kept too.
+#[derive(Clone, Copy)]
+pub enum Kind {
+    Double,
+    Kept,
+    Gap,
+    Backward,
+}
+
+// How many scans there are, and how many of each kind; gaps and backward steps are among the kept.
+#[derive(Clone, Copy)]
+pub struct Counts {
+    pub scans: u64,
+    pub doubles: u64,
+    pub kept: u64,
+    pub gaps: u64,
+    pub backward: u64,
+}
+
 // ---- answers: a number first, 0 for accepted
 
 // A scan and how many bytes it took; 0 in every part beside a refusal.
@@ -26,6 +45,13 @@ pub struct ScanRead {
 pub struct FileRead {
     pub number: u32,
     pub scans: usize,
+}
+
+// The counts of a file; 0 beside a refusal.
+#[derive(Clone, Copy)]
+pub struct Report {
+    pub number: u32,
+    pub counts: Counts,
 }
 
 // ---- what the reader of a part of a scan finds

@@ -76,3 +76,15 @@ formBroken = 18
 -- number of a scan padded, without an end mark in five bytes, or above 4,294,967,295
 abbrev pub numberRefused : ℕ
 numberRefused = 19
+
+-- fewer words than the report needs
+abbrev pub wordsRefused : ℕ
+wordsRefused = 20
+
+-- W above 86,400 seconds
+abbrev pub windowRefused : ℕ
+windowRefused = 21
+
+-- a 257th tag
+abbrev pub tagsRefused : ℕ
+tagsRefused = 22

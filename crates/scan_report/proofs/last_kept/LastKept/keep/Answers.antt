@@ -1,0 +1,10 @@
+-- `LastKept::keep` meets its contract.
+use Rattle.scan_report.proofs.Kept.{kept-next, kept-there}
+use Rattle.scan_report.proofs.last_kept.LastKept.keep.Goals as goal
+
+pub invariant_of-self : goal.invariant_of-self
+invariant_of-self c = kept-next c.self.invariant c.self.view_is c.args.x c.args.place c.requires.place c.if-place-self.true c.requires.room
+
+pub invariant_of-self-else-place-self : goal.invariant_of-self-else-place-self
+invariant_of-self-else-place-self c =
+    kept-there c.self.invariant c.self.view_is c.args.x c.args.place c.requires.place c.if-place-self.false

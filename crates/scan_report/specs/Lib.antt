@@ -1,0 +1,2 @@
+-- What the contracts of the report's own functions cite.
+pub mod Kept

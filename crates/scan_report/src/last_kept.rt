@@ -1,0 +1,110 @@
+// The last kept scan of each tag, in the order of the tags' first scans.
+ghost use Rattle.std.specs.Prelude.{◌≡◌, ◌≤◌, ◌<◌, ◌+◌, List, [], length, take};
+ghost use Rattle.scans.specs.Tally.{placeOf, withLast};
+ghost use Rattle.scans.specs.Report.{wordCount, wordsOver};
+
+use ion::Timestamp;
+use scans::Scan;
+use std::marker::Model;
+
+// How many tags there is room for.
+pub(crate) const TAG_COUNT: usize = 256;
+
+// How many words they have.
+pub(crate) const WORD_COUNT: usize = 768;
+
+// How many hints there are: a power of two.
+const HINT_COUNT: usize = 1024;
+
+pub(crate) struct LastKept {
+    scans: [Scan; 256],
+    // Where the tag of each hash may stand. A wrong hint costs a search.
+    hints: [u8; 1024],
+    len: usize,
+}
+
+impl Model for LastKept {
+    ghost use Rattle.std.specs.Prelude.{List, take};
+    ghost use Rattle.scans.specs.declared.Scan.{Scan};
+    ghost use Rattle.scan_report.specs.Kept.{IsKept};
+
+    ghost Value = { List Scan };
+
+    ghost view = { λ k. take k.len k.scans };
+
+    ghost invariant = { λ k. IsKept k.len k.scans };
+}
+
+impl LastKept {
+    pub fn new() -> Self
+        ensures { result ≡ [] }
+    {
+        let none = Scan {
+            tag: 0,
+            guard: 0,
+            stamp: Timestamp {
+                packed_fields: 0,
+                attoseconds: 0,
+            },
+        };
+        LastKept {
+            scans: [none; 256],
+            hints: [0; 1024],
+            len: 0,
+        }
+    }
+
+    pub fn len(&self) -> usize
+        ensures { result ≡ length self.now }
+    {
+        self.len
+    }
+
+    // The place of the tag of `x`: past the last where it has none.
+    pub fn place(&self, x: Scan) -> usize
+        ensures { result ≡ placeOf x self.now }
+    {
+        let hint = self.hints[(x.tag % 1024) as usize] as usize;
+        if hint < self.len && self.scans[hint].tag == x.tag {
+            return hint;
+        }
+        for i in 0..self.len {
+            if self.scans[i].tag == x.tag {
+                return i;
+            }
+        }
+        self.len
+    }
+
+    // Puts `x` in its place.
+    #[tactic(auto, using(crate::proofs::Kept::putting))]
+    pub fn keep(&mut self, place: usize, x: Scan)
+        requires place { place ≡ placeOf x self.old }
+        requires room { place < 256 }
+        ensures { self.new ≡ withLast x self.old }
+    {
+        self.scans[place] = x;
+        self.hints[(x.tag % 1024) as usize] = (place % 256) as u8;
+        if place == self.len {
+            self.len += 1;
+        }
+    }
+
+    // Puts the words of the scans into the first 768, and zeros after them.
+    pub fn write_words(&self, words: &mut [u64])
+        requires { wordCount ≤ length words.old }
+        ensures { words.new ≡ wordsOver words.old self.now }
+    {
+        let mut at = 0;
+        for i in 0..self.len {
+            let x = self.scans[i];
+            words[at] = x.tag as u64;
+            words[at + 1] = x.stamp.packed_fields;
+            words[at + 2] = x.stamp.attoseconds;
+            at += 3;
+        }
+        for j in at..WORD_COUNT {
+            words[j] = 0;
+        }
+    }
+}

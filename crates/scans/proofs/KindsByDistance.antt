@@ -1,0 +1,56 @@
+-- What a scan is beside the last kept one, by the distance of their timestamps: what a program computes. Assumes nothing.
+use Rattle.std.proofs.Common.{◌≡◌, sym, ◌∙◌, ℕ, ◌+◌, ◌*◌, ◌/◌, ◌%◌, ◌^◌, ◌≤◌, ◌<◌, Bool, true, false, cond, ◌&&◌, ◌||◌, eqb, ltb, arith}
+use native.Mathlib.Decide.{dec_lt}
+use Rattle.std.proofs.lemmas.Int.{ints}
+use borrow.Author.Tests.{lt-ltb, le-ltb, eq-eqb, ne_eqb}
+use Rattle.ion.specs.Calls.Order.{sizeOfDifference}
+use Rattle.scans.specs.Tally.{seconds, kindBeside}
+use Rattle.scans.specs.declared.Kind.{Kind}
+use Rattle.scans.specs.declared.Kind.TheVariants.{Double, Kept, Gap, Backward}
+
+-- by whether it is earlier, and by the size of the distance in seconds and attoseconds
+abbrev pub kindAt : ℕ → ℕ → Bool → ℕ → ℕ → Kind
+kindAt w g earlier q r = cond (ltb q w) Double (cond earlier Backward (cond (ltb g q || (eqb q g && ltb 0 r)) Gap Kept))
+
+-- less than w seconds
+less : (n w : ℕ) → ltb n (w * 10 ^ 18) ≡ ltb (n / 10 ^ 18) w
+less n w = go (dec_lt n (w * 10 ^ 18))
+  where
+    go : Dec (n < w * 10 ^ 18) → ltb n (w * 10 ^ 18) ≡ ltb (n / 10 ^ 18) w
+    go (yes h) = lt-ltb n (w * 10 ^ 18) h ∙ sym (lt-ltb (n / 10 ^ 18) w (omega arith))
+    go (no h) = le-ltb n (w * 10 ^ 18) (omega arith) ∙ sym (le-ltb (n / 10 ^ 18) w (omega arith))
+
+-- more than g seconds
+more : (n g : ℕ) → ltb (g * 10 ^ 18) n ≡ (ltb g (n / 10 ^ 18) || (eqb (n / 10 ^ 18) g && ltb 0 (n % 10 ^ 18)))
+more n g = go (dec_lt g (n / 10 ^ 18)) (dec_lt (g * 10 ^ 18) n) (dec_lt (n / 10 ^ 18) g)
+  where
+    go : Dec (g < n / 10 ^ 18) → Dec (g * 10 ^ 18 < n) → Dec (n / 10 ^ 18 < g)
+        → ltb (g * 10 ^ 18) n ≡ (ltb g (n / 10 ^ 18) || (eqb (n / 10 ^ 18) g && ltb 0 (n % 10 ^ 18)))
+    go (yes h) d e = lt-ltb (g * 10 ^ 18) n (omega arith) ∙ rw (lt-ltb g (n / 10 ^ 18) h)
+    go (no h) (yes k) e =
+        rw (le-ltb g (n / 10 ^ 18) (omega arith), eq-eqb (n / 10 ^ 18) g (omega arith), lt-ltb 0 (n % 10 ^ 18) (omega arith))
+        (lt-ltb (g * 10 ^ 18) n k)
+    go (no h) (no k) (yes l) =
+        rw (le-ltb g (n / 10 ^ 18) (omega arith), ne_eqb (n / 10 ^ 18) g (λ e. omega arith)) (le-ltb (g * 10 ^ 18) n (omega arith))
+    go (no h) (no k) (no l) =
+        rw (le-ltb g (n / 10 ^ 18) (omega arith), eq-eqb (n / 10 ^ 18) g (omega arith), le-ltb 0 (n % 10 ^ 18) (omega arith))
+        (le-ltb (g * 10 ^ 18) n (omega arith))
+
+-- counted from the last kept one
+after-last : (m n g : ℕ) → m ≤ n → ltb (m + g * 10 ^ 18) n ≡ ltb (g * 10 ^ 18) (sizeOfDifference n m)
+after-last m n g h = go (dec_lt (m + g * 10 ^ 18) n)
+  where
+    go : Dec (m + g * 10 ^ 18 < n) → ltb (m + g * 10 ^ 18) n ≡ ltb (g * 10 ^ 18) (sizeOfDifference n m)
+    go (yes l) = lt-ltb (m + g * 10 ^ 18) n l ∙ sym (lt-ltb (g * 10 ^ 18) (sizeOfDifference n m) (omega (arith, ints)))
+    go (no l) = le-ltb (m + g * 10 ^ 18) n (omega arith) ∙ sym (le-ltb (g * 10 ^ 18) (sizeOfDifference n m) (omega (arith, ints)))
+
+pub kind-by-distance : (w g m n : ℕ)
+    → kindBeside w g m n ≡ kindAt w g (ltb n m) (sizeOfDifference n m / 10 ^ 18) (sizeOfDifference n m % 10 ^ 18)
+unfolding kindBeside
+kind-by-distance w g m n = go (dec_lt n m)
+  where
+    go : Dec (n < m)
+        → cond (ltb (sizeOfDifference n m) (seconds w)) Double (cond (ltb n m) Backward (cond (ltb (m + seconds g) n) Gap Kept))
+        ≡ kindAt w g (ltb n m) (sizeOfDifference n m / 10 ^ 18) (sizeOfDifference n m % 10 ^ 18)
+    go (yes h) = rw (lt-ltb n m h, less (sizeOfDifference n m) w)
+    go (no h) = rw (le-ltb n m (omega arith), less (sizeOfDifference n m) w, after-last m n g (omega arith), more (sizeOfDifference n m) g)
