@@ -1,20 +1,28 @@
 -- The last kept scans l in the front of an array: how many, which place a tag has, and a scan put in its place. Assumes nothing.
 use Rattle.std.proofs.Common.{◌≡◌, refl, sym, ap, ap₂, ◌∙◌, ℕ, ◌+◌, ◌≤◌, ◌<◌, List, [], ◌∷◌, ◌++◌, length, take, get_or, set, length-set, subst, arith}
-use Rattle.std.proofs.lemmas.List.{get_or-take}
+use Rattle.std.proofs.lemmas.List.{get_or-take, get_or-set_same, get_or-set_other}
+use native.Mathlib.Decide.{ℕ_discrete}
 use Rattle.std.proofs.Math.Seq.{length-take-le, take-set-lt}
 use Rattle.std.proofs.lemmas.Grind.{take-set_at}
-use Rattle.scans.specs.Tally.{placeOf, withLast}
+use Rattle.scans.specs.Tally.{noScan, placeOf, withLast}
 use Rattle.scans.specs.declared.Scan.{Scan}
 use Rattle.scans.proofs.Tallies.{place-within}
 use Rattle.scans.proofs.Posts.{None, Apart, place-at, none-there, last-push, last-set, apart-last}
-use Rattle.scan_report.specs.Kept.{IsKept}
+use Rattle.scan_report.specs.Moment.{IsMoment}
+use Rattle.scan_report.specs.Kept.{noMoment, IsKept}
+use Rattle.scan_report.specs.declared.moment.Moment.{Moment}
 
-module _ {n : ℕ} {a l : List Scan} (k : IsKept n a) (v : take n a ≡ l) where
+module _ {n : ℕ} {a l : List Scan} {b : List Moment} (k : IsKept n a b) (v : take n a ≡ l) where
   pub kept-length : n ≡ length l
   kept-length = sym (length-take-le n a (omega (arith, k.few, k.size))) ∙ ap length v
 
   kept-at : (i : ℕ) (d : Scan) → i < n → get_or l i d ≡ get_or a i d
   kept-at i d h = ap (λ (m : List Scan). get_or m i d) (sym v) ∙ get_or-take n a i d h
+
+  pub moment-at : (i : ℕ) → i < length l → IsMoment (get_or l i noScan).stamp (get_or b i noMoment)
+  moment-at i h =
+      let there : i < n = omega (arith, kept-length) in
+      subst (λ (y : Scan). IsMoment y.stamp (get_or b i noMoment)) (sym (kept-at i noScan there)) (k.counted i there)
 
   apart : Apart l
   apart = subst Apart v k.apart
@@ -49,12 +57,39 @@ module _ {n : ℕ} {a l : List Scan} (k : IsKept n a) (v : take n a ≡ l) where
         ∙ ap₂ (λ (m : List Scan) (j : ℕ). set m j x) v p
         ∙ sym (last-set x l (omega (arith, before h, kept-length)))
 
-    pub kept-next : i ≡ n → i < 256 → IsKept (n + 1) (set a i x)
-    kept-next e h =
-        record { few = omega arith; size = length-set a i x ∙ k.size; apart = subst Apart (sym (put-next e h)) (apart-last x l apart) }
+    module _ (m : Moment) (q : IsMoment x.stamp m) where
+      -- its moment at i, and those of the others
+      counted-set : i < 256 → (j : ℕ) → ((j ≡ i → ⊥) → j < n) → IsMoment (get_or (set a i x) j noScan).stamp (get_or (set b i m) j noMoment)
+      counted-set h j o = go (ℕ_discrete j i)
+        where
+          go : Dec (j ≡ i) → IsMoment (get_or (set a i x) j noScan).stamp (get_or (set b i m) j noMoment)
+          go (yes e) =
+              let s : get_or (set a i x) j noScan ≡ x = ap (λ (j : ℕ). get_or (set a i x) j noScan) e ∙ get_or-set_same a i x noScan (omega (arith, k.size)) in
+              let t : get_or (set b i m) j noMoment ≡ m =
+              ap (λ (j : ℕ). get_or (set b i m) j noMoment) e ∙ get_or-set_same b i m noMoment (omega (arith, k.moment-size)) in
+              subst (λ (y : Scan). IsMoment y.stamp (get_or (set b i m) j noMoment)) (sym s) (subst (IsMoment x.stamp) (sym t) q)
+          go (no e) =
+              subst (λ (y : Scan). IsMoment y.stamp (get_or (set b i m) j noMoment)) (sym (get_or-set_other a i j x noScan e))
+              (subst (IsMoment (get_or a j noScan).stamp) (sym (get_or-set_other b i j m noMoment e)) (k.counted j (o e)))
 
-    pub kept-there : (i ≡ n → ⊥) → IsKept n (set a i x)
-    kept-there h =
-        record { few = k.few; size = length-set a i x ∙ k.size; apart = subst Apart (sym (put-there h)) (apart-last x l apart) }
+      pub kept-next : i ≡ n → i < 256 → IsKept (n + 1) (set a i x) (set b i m)
+      kept-next e h =
+          record {
+            few = omega arith;
+            size = length-set a i x ∙ k.size;
+            moment-size = length-set b i m ∙ k.moment-size;
+            apart = subst Apart (sym (put-next e h)) (apart-last x l apart);
+            counted = λ j s. counted-set h j (λ d. omega arith);
+          }
+
+      pub kept-there : (i ≡ n → ⊥) → IsKept n (set a i x) (set b i m)
+      kept-there h =
+          record {
+            few = k.few;
+            size = length-set a i x ∙ k.size;
+            moment-size = length-set b i m ∙ k.moment-size;
+            apart = subst Apart (sym (put-there h)) (apart-last x l apart);
+            counted = λ j s. counted-set (omega (arith, before h, k.few)) j (λ d. s);
+          }
 
 pub ruleset putting = (put-next, put-there, kept-next, kept-there)

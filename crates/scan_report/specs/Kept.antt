@@ -1,9 +1,17 @@
--- What holds of the last kept scans as a program has them: the first `len` of an array of 256. Assumes nothing.
-use Rattle.std.specs.Prelude.{ℕ, ◌≡◌, ◌≤◌, List, length, take}
+-- What holds of the last kept scans as a program has them: the first `len` of an array of 256, and the moment of each. Assumes nothing.
+use Rattle.std.specs.Prelude.{ℕ, ◌≡◌, ◌≤◌, ◌<◌, List, length, take, get_or}
+use Rattle.scans.specs.Tally.{noScan}
 use Rattle.scans.specs.declared.Scan.{Scan}
 use Rattle.scans.proofs.Posts.{Apart}
+use Rattle.scan_report.specs.Moment.{IsMoment}
+use Rattle.scan_report.specs.declared.moment.Moment.{Moment}
 
-pub record IsKept (len : ℕ) (scans : List Scan) : Type 0 where
+abbrev pub noMoment : Moment
+noMoment = record { seconds = 0; attoseconds = 0 }
+
+pub record IsKept (len : ℕ) (scans : List Scan) (moments : List Moment) : Type 0 where
   pub few : len ≤ 256
   pub size : length scans ≡ 256
+  pub moment-size : length moments ≡ 256
   pub apart : Apart (take len scans)
+  pub counted : (i : ℕ) → i < len → IsMoment (get_or scans i noScan).stamp (get_or moments i noMoment)

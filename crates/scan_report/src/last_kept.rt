@@ -1,8 +1,10 @@
 // The last kept scan of each tag, in the order of the tags' first scans.
-ghost use Rattle.std.specs.Prelude.{◌≡◌, ◌≤◌, ◌<◌, ◌+◌, List, [], length, take};
-ghost use Rattle.scans.specs.Tally.{placeOf, withLast};
+ghost use Rattle.std.specs.Prelude.{◌≡◌, ◌≤◌, ◌<◌, ◌+◌, List, [], length, get_or};
+ghost use Rattle.scans.specs.Tally.{noScan, placeOf, withLast};
 ghost use Rattle.scans.specs.Report.{wordCount, wordsOver};
+ghost use Rattle.scan_report.specs.Moment.{IsMoment};
 
+use crate::moment::Moment;
 use ion::Timestamp;
 use scans::Scan;
 use std::marker::Model;
@@ -18,6 +20,7 @@ const HINT_COUNT: usize = 1024;
 
 pub(crate) struct LastKept {
     scans: [Scan; 256],
+    moments: [Moment; 256],
     // Where the tag of each hash may stand. A wrong hint costs a search.
     hints: [u8; 1024],
     len: usize,
@@ -32,7 +35,7 @@ impl Model for LastKept {
 
     ghost view = { λ k. take k.len k.scans };
 
-    ghost invariant = { λ k. IsKept k.len k.scans };
+    ghost invariant = { λ k. IsKept k.len k.scans k.moments };
 }
 
 impl LastKept {
@@ -49,6 +52,10 @@ impl LastKept {
         };
         LastKept {
             scans: [none; 256],
+            moments: [Moment {
+                seconds: 0,
+                attoseconds: 0,
+            }; 256],
             hints: [0; 1024],
             len: 0,
         }
@@ -76,14 +83,25 @@ impl LastKept {
         self.len
     }
 
+    // The moment of the scan at a place.
+    pub fn moment(&self, place: usize) -> Moment
+        requires place { place < length self.now }
+        requires room { place < 256 }
+        ensures { IsMoment (get_or self.now place noScan).stamp result }
+    {
+        self.moments[place]
+    }
+
     // Puts `x` in its place.
     #[tactic(auto, using(crate::proofs::Kept::putting))]
-    pub fn keep(&mut self, place: usize, x: Scan)
+    pub fn keep(&mut self, place: usize, x: Scan, moment: Moment)
         requires place { place ≡ placeOf x self.old }
+        requires counted { IsMoment x.stamp moment }
         requires room { place < 256 }
         ensures { self.new ≡ withLast x self.old }
     {
         self.scans[place] = x;
+        self.moments[place] = moment;
         self.hints[(x.tag % 1024) as usize] = (place % 256) as u8;
         if place == self.len {
             self.len += 1;

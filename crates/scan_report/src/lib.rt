@@ -2,3 +2,4 @@
 #![tactic(auto)]
 
 mod last_kept;
+mod moment;

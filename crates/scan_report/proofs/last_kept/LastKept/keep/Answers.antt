@@ -3,8 +3,11 @@ use Rattle.scan_report.proofs.Kept.{kept-next, kept-there}
 use Rattle.scan_report.proofs.last_kept.LastKept.keep.Goals as goal
 
 pub invariant_of-self : goal.invariant_of-self
-invariant_of-self c = kept-next c.self.invariant c.self.view_is c.args.x c.args.place c.requires.place c.if-place-self.true c.requires.room
+invariant_of-self c =
+    let r = c.requires in
+    kept-next c.self.invariant c.self.view_is c.args.x c.args.place r.place c.args.moment r.counted c.if-place-self.true r.room
 
 pub invariant_of-self-else-place-self : goal.invariant_of-self-else-place-self
 invariant_of-self-else-place-self c =
-    kept-there c.self.invariant c.self.view_is c.args.x c.args.place c.requires.place c.if-place-self.false
+    let r = c.requires in
+    kept-there c.self.invariant c.self.view_is c.args.x c.args.place r.place c.args.moment r.counted c.if-place-self.false

@@ -1,0 +1,7 @@
+-- `LastKept::moment` meets its contract.
+use Rattle.std.proofs.Common.{arith}
+use Rattle.scan_report.proofs.Kept.{moment-at}
+use Rattle.scan_report.proofs.last_kept.LastKept.moment.Goals as goal
+
+pub returns : goal.returns
+returns c = moment-at c.self.invariant c.self.view_is c.args.place c.requires.place
