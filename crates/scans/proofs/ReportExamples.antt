@@ -23,7 +23,7 @@ use Rattle.scans.specs.Number.{readNumber}
 use Rattle.scans.specs.Scan.{scanOf, scanBytes, readScan}
 use Rattle.scans.specs.File.{contentsOf, fileBytes}
 use Rattle.scans.specs.Tally.{placeOf, withLast, kindBeside, kindOf, countsWith, noCounts, tallyFrom}
-use Rattle.scans.specs.Report.{wordsFor, wordsOver, reportNumber, reported, reportOf, wordsAfter}
+use Rattle.scans.specs.Report.{wordsFor, wordsOver, lentNumber, fileNumber, reported, refusedReport, reportOf, wordsAfter}
 use Rattle.scans.specs.declared.Scan.{Scan}
 use Rattle.scans.specs.declared.Counts.{Counts}
 use Rattle.scans.specs.declared.Report.{Report}
@@ -86,14 +86,14 @@ reports : ℕ → ℕ → List ℕ → Counts → List ℕ → Row
 reports w g s c words =
     record {
       given = record { report = reportOf (lent 770) w g s; words = wordsAfter (lent 770) w g s };
-      stated = record { report = reported 0 c; words = words ++ (replicate {A = ℕ} (768 - length words) 0 ++ (7 ∷ 7 ∷ [])) };
+      stated = record { report = reported c; words = words ++ (replicate {A = ℕ} (768 - length words) 0 ++ (7 ∷ 7 ∷ [])) };
     }
 
 refuses : ℕ → ℕ → List ℕ → ℕ → Row
 refuses size w s n =
     record {
       given = record { report = reportOf (lent size) w 0 s; words = wordsAfter (lent size) w 0 s };
-      stated = record { report = reported n noCounts; words = lent size };
+      stated = record { report = refusedReport n; words = lent size };
     }
 
 pub reportRows : List Row
@@ -152,5 +152,5 @@ unfolding reportRows clockWord at finer wordsAt p9-east p9-west yearOne tagsBelo
     monthLengthOf sumBelow wordOf fieldsOf capped countOf buildOf buildNumber buildPair checkOf utcFields offsetBytes varuints fieldCount
     fractionBytes bodyFrom bodyOf header valueOf decodeOffset decodeFields decodeFraction filled precisionWith decodeBody pairFrom same
     isBodyOf readBody readAfter readLength readValue contentsFrom contents inTurn readNumber scanBytes readScan contentsOf fileBytes placeOf
-    withLast kindBeside kindOf tallyFrom wordsFor wordsOver reportNumber reportOf wordsAfter
+    withLast kindBeside kindOf tallyFrom wordsFor wordsOver lentNumber fileNumber reportOf wordsAfter
 report-examples = refl

@@ -2,7 +2,7 @@
 use Rattle.std.specs.Prelude.{ℕ, ◌-◌, List, [], ◌∷◌, ◌++◌, ltb, length, drop, replicate}
 use Rattle.ion.specs.Pair.Pair.{wordIn}
 use Rattle.ion.specs.Calls.Refusal.{wordsRefused, windowRefused, tagsRefused}
-use Rattle.ion.specs.Calls.Answered.{answered}
+use Rattle.ion.specs.Calls.Answered.{answered, firstRefusal}
 use Rattle.ion.specs.Calls.Build.{firstOf}
 use Rattle.ion.specs.Calls.Contents.{Contents, inTurn}
 use Rattle.scans.specs.File.{contentsOf}
@@ -42,24 +42,28 @@ longestWindow = 86400
 abbrev pub fileTally : ℕ → ℕ → List ℕ → Tally
 fileTally w g s = tallyOf w g (contentsOf s).items
 
--- the number: the first two before reading; then a 257th tag among the scans before the end or the damage; then the damage's
-unfoldable pub reportNumber : ℕ → ℕ → ℕ → List ℕ → ℕ
-reportNumber size w g s =
-    let damage = (contentsOf s).number in
-    firstOf (
-      (ltb size wordCount, wordsRefused)
-      ∷ (ltb longestWindow w, windowRefused)
-      ∷ (ltb tagCount (length (fileTally w g s).last), tagsRefused)
-      ∷ (ltb 0 damage, damage)
-      ∷ []
-    )
+-- the numbers before reading
+unfoldable pub lentNumber : ℕ → ℕ → ℕ
+lentNumber size w = firstOf ((ltb size wordCount, wordsRefused) ∷ (ltb longestWindow w, windowRefused) ∷ [])
 
-abbrev pub reported : ℕ → Counts → Report
-reported n c = record { number = n; counts = c }
+-- a file's: a 257th tag among the scans before the end or the damage; then the damage's
+unfoldable pub fileNumber : ℕ → ℕ → List ℕ → ℕ
+fileNumber w g s =
+    let damage = (contentsOf s).number in
+    firstOf ((ltb tagCount (length (fileTally w g s).last), tagsRefused) ∷ (ltb 0 damage, damage) ∷ [])
+
+abbrev pub reportNumber : ℕ → ℕ → ℕ → List ℕ → ℕ
+reportNumber size w g s = firstRefusal (lentNumber size w) (fileNumber w g s)
+
+abbrev pub reported : Counts → Report
+reported c = record { number = 0; counts = c }
+
+abbrev pub refusedReport : ℕ → Report
+refusedReport n = record { number = n; counts = noCounts }
 
 -- the report on the file s with w and g seconds; d are the words lent
 unfoldable pub reportOf : List ℕ → ℕ → ℕ → List ℕ → Report
-reportOf d w g s = answered (reportNumber (length d) w g s) (reported 0 (fileTally w g s).counts) (λ n. reported n noCounts)
+reportOf d w g s = answered (reportNumber (length d) w g s) (reported (fileTally w g s).counts) refusedReport
 
 -- the words after it: all as they were where it is refused
 unfoldable pub wordsAfter : List ℕ → ℕ → ℕ → List ℕ → List ℕ
