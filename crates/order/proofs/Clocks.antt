@@ -106,3 +106,5 @@ pub ruleset ahead = (valid-local, ahead-small)
 pub ruleset moved = (moved-gives, moved-below)
 
 pub ruleset clocks = (valid-local, distance_is)
+
+pub ruleset in_utc = (valid-local)

@@ -46,7 +46,7 @@ fn distance_by(sign: i32, m: u64, a: u64, n: u64, b: u64) -> Distance
 
 // The distance of two counts, of which either may be the earlier.
 #[tactic(auto, using(crate::proofs::CountsInSeconds::turned))]
-pub(crate) fn distance_of_counts(m: u64, a: u64, n: u64, b: u64) -> Distance
+pub fn distance_of_counts(m: u64, a: u64, n: u64, b: u64) -> Distance
     requires { (a < 10 ^ 18) × (b < 10 ^ 18) }
     ensures { result ≡ distanceOfCounts (m * 10 ^ 18 + a) (n * 10 ^ 18 + b) }
 {

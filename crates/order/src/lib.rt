@@ -12,6 +12,10 @@ use accepted::{distance_of, order_of};
 use counts::order_of_pairs;
 use ion::{Compared, Distance, Ordered, Timestamp};
 
+// For the crates above: these ask for what a check gives.
+pub use counts::distance_of_counts;
+pub use seconds::utc_seconds;
+
 // The first number of the two checks that is not 0; 0 where both timestamps are accepted.
 fn check_both(s: Timestamp, t: Timestamp) -> u32
     ensures { result ≡ checkBoth s t }

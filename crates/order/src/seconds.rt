@@ -1,7 +1,8 @@
 // Whole seconds of two timestamps by the local clock of the first: the difference of their offsets is added to the second.
-ghost use Rattle.std.specs.Prelude.{◌≡◌, ◌^◌, ◌<◌, nat_abs};
+ghost use Rattle.std.specs.Prelude.{◌≡◌, ◌+◌, ◌*◌, ◌^◌, ◌<◌, nat_abs};
 ghost use Rattle.ion.specs.Calls.Accepted.{timeIn, Accepted};
 ghost use Rattle.ion.specs.Pair.Pair.{wordIn};
+ghost use Rattle.ion.specs.Pair.Count.{countOf};
 ghost use Rattle.ion.specs.Calendar.Shift.{minuteNumber};
 ghost use Rattle.ion.specs.Pair.Word.{fieldsOf};
 ghost use Rattle.order.specs.Local.{IsLocalFields, secondsAt, offsetDifference, secondsOfBoth};
@@ -63,4 +64,15 @@ pub(crate) fn seconds_of_both(s: Timestamp, t: Timestamp) -> Seconds
         first: seconds_at(f, 0),
         second: seconds_at(g, ahead),
     }
+}
+
+// Those of an accepted timestamp's count, in UTC.
+#[tactic(auto, using(crate::proofs::Clocks::in_utc), unfolding(ion::specs::Pair::Count::countOf))]
+pub fn utc_seconds(s: Timestamp) -> u64
+    requires { Accepted s }
+    ensures { result * 10 ^ 18 + s.attoseconds ≡ countOf s }
+{
+    let f = packed::unpack(s.packed_fields);
+    let o = offset::minutes_of(offset::offset_of(f.offset));
+    seconds_at(f, o.negated().minutes())
 }

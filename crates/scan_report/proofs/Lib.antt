@@ -1,2 +1,4 @@
 -- What the proofs of several functions use.
 pub mod Kept
+pub mod ByDistance
+pub mod Places

@@ -3,11 +3,12 @@ ghost use Rattle.std.specs.Prelude.{◌≡◌, ◌<◌, []};
 ghost use Rattle.ion.specs.Calls.Accepted.{Accepted};
 ghost use Rattle.ion.specs.Calls.Answered.{answered};
 ghost use Rattle.scans.specs.Tally.{kindOf, lastAfter, placeOf};
+ghost use Rattle.scan_report.specs.Moment.{IsMoment};
 ghost use Rattle.scans.specs.Report.{fileNumber, fileTally, reported, refusedReport};
 
 use crate::kind::{counted, kind_beside};
 use crate::last_kept::{LastKept, TAG_COUNT};
-use crate::moment::moment_of;
+use crate::moment::{Moment, moment_of};
 use ion::refusal;
 use scans::{Counts, Kind, Report, Scan};
 
@@ -26,6 +27,19 @@ pub(crate) fn refused(number: u32) -> Report
     }
 }
 
+// What `x` is, whose tag has that place.
+fn kind_of(last: &LastKept, place: usize, w: u32, g: u32, x: Scan, moment: Moment) -> Kind
+    requires place { place ≡ placeOf x last.now }
+    requires room { place < 256 }
+    requires counted { IsMoment x.stamp moment }
+    ensures { result ≡ kindOf w g last.now x }
+{
+    if place == last.len() {
+        return Kind::Kept;
+    }
+    kind_beside(w, g, last.moment(place), moment)
+}
+
 // What `x` is, whose tag has that place; a kept one takes it.
 fn take_scan(last: &mut LastKept, place: usize, w: u32, g: u32, x: Scan) -> Kind
     requires place { place ≡ placeOf x last.old }
@@ -35,49 +49,10 @@ fn take_scan(last: &mut LastKept, place: usize, w: u32, g: u32, x: Scan) -> Kind
     ensures last { last.new ≡ lastAfter (kindOf w g last.old x) x last.old }
 {
     let moment = moment_of(x.stamp);
-    let kind = if place == last.len() {
-        Kind::Kept
-    } else {
-        kind_beside(w, g, last.moment(place), moment)
-    };
+    let kind = kind_of(last, place, w, g, x, moment);
     match kind {
         Kind::Double => {}
         _ => last.keep(place, x, moment),
     }
     kind
-}
-
-// The counts of a file, or the number of a 257th tag or of the file's damage; and the last kept scans.
-pub(crate) fn tally(s: &[u8], w: u32, g: u32, last: &mut LastKept) -> Report
-    requires { last.old ≡ [] }
-    ensures report { result ≡ answered (fileNumber w g s.now) (reported (fileTally w g s.now).counts) refusedReport }
-    ensures last { fileNumber w g s.now ≡ 0 → last.new ≡ (fileTally w g s.now).last }
-{
-    let mut at = 0;
-    let mut counts = Counts {
-        scans: 0,
-        doubles: 0,
-        kept: 0,
-        gaps: 0,
-        backward: 0,
-    };
-    while at < s.len() {
-        let r = scan_binary::read_scan(&s[at..]);
-        let number = r.number;
-        if number != 0 {
-            return refused(number);
-        }
-        let x = r.scan;
-        let place = last.place(x);
-        if TAG_COUNT <= place {
-            return refused(refusal::TAGS);
-        }
-        let kind = take_scan(last, place, w, g, x);
-        counts = counted(counts, kind);
-        at += r.taken;
-    }
-    Report {
-        number: 0,
-        counts: counts,
-    }
 }
