@@ -2,3 +2,5 @@
 pub mod Kept
 pub mod ByDistance
 pub mod Places
+pub mod Tallying
+pub mod Reports

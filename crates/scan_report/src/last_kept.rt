@@ -18,6 +18,7 @@ pub(crate) const WORD_COUNT: usize = 768;
 // How many hints there are: a power of two.
 const HINT_COUNT: usize = 1024;
 
+#[derive(Drop)]
 pub(crate) struct LastKept {
     scans: [Scan; 256],
     moments: [Moment; 256],

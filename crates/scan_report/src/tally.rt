@@ -56,3 +56,38 @@ fn take_scan(last: &mut LastKept, place: usize, w: u32, g: u32, x: Scan) -> Kind
     }
     kind
 }
+
+// The counts of a file, or the number of a 257th tag or of the file's damage; and the last kept scans.
+pub(crate) fn tally(s: &[u8], w: u32, g: u32, last: &mut LastKept) -> Report
+    requires { last.old ≡ [] }
+    ensures report { result ≡ answered (fileNumber w g s.now) (reported (fileTally w g s.now).counts) refusedReport }
+    ensures last { fileNumber w g s.now ≡ 0 → last.new ≡ (fileTally w g s.now).last }
+{
+    let mut at = 0;
+    let mut counts = Counts {
+        scans: 0,
+        doubles: 0,
+        kept: 0,
+        gaps: 0,
+        backward: 0,
+    };
+    while at < s.len() {
+        let r = scan_binary::read_scan(&s[at..]);
+        let number = r.number;
+        if number != 0 {
+            return refused(number);
+        }
+        let x = r.scan;
+        let place = last.place(x);
+        if TAG_COUNT <= place {
+            return refused(refusal::TAGS);
+        }
+        let kind = take_scan(last, place, w, g, x);
+        counts = counted(counts, kind);
+        at += r.taken;
+    }
+    Report {
+        number: 0,
+        counts: counts,
+    }
+}

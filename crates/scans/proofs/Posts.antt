@@ -1,7 +1,9 @@
 -- The last kept scans are of tags apart from one another, so each stands in the place of its tag. Assumes nothing.
-use Rattle.std.proofs.Common.{◌≡◌, refl, sym, ap, ◌∙◌, ℕ, zero, suc, ◌+◌, ◌<◌, Bool, true, false, cond, List, [], ◌∷◌, ◌++◌, length, get_or, set, arith}
+use Rattle.std.proofs.Common.{◌≡◌, refl, sym, ap, ◌∙◌, ℕ, zero, suc, ◌+◌, ◌<◌, Bool, true, false, cond, List, [], ◌∷◌, ◌++◌, ◌≤◌, length, get_or, set, length-set, arith}
 use borrow.Author.Tests.{eqb-true, eqb-false, eq-eqb, ne_eqb}
+use native.Mathlib.Decide.{dec_lt}
 use Rattle.scans.specs.Tally.{samePost, placeOf, withLast, lastAfter}
+use Rattle.scans.proofs.Tallies.{place-within, last-length}
 use Rattle.scans.specs.declared.Scan.{Scan}
 use Rattle.scans.specs.declared.Kind.{Kind}
 use Rattle.scans.specs.declared.Kind.TheVariants.{Double, Kept, Gap, Backward}
@@ -101,3 +103,20 @@ last-set x (y ∷ l) h = go (last-set x l) (samePost x y) h
         → cond t (x ∷ l) (y ∷ withLast x l) ≡ set (y ∷ l) (cond t 0 (suc (placeOf x l))) x
     go f true h = refl
     go f false h = ap (λ (r : List Scan). y ∷ r) (f (omega arith))
+
+-- the last kept scans are no more than there is room for
+pub after-few : (n : ℕ) (k : Kind) (x : Scan) (l : List Scan) → length l ≤ n → placeOf x l < n → length (lastAfter k x l) ≤ n
+after-few n k x l h p = go k
+  where
+    kept : length (withLast x l) ≤ n
+    kept = by (dec_lt (placeOf x l) (length l))
+      where
+        by : Dec (placeOf x l < length l) → length (withLast x l) ≤ n
+        by (yes q) = omega (arith, ap length (last-set x l q), length-set l (placeOf x l) x)
+        by (no q) = omega (arith, (last-length x l).1, place-within x l)
+
+    go : (k : Kind) → length (lastAfter k x l) ≤ n
+    go Double = h
+    go Kept = kept
+    go Gap = kept
+    go Backward = kept
