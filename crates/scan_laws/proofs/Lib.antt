@@ -1,5 +1,6 @@
--- The laws of scans and their files: numbers, what is read of a scan, scans both ways, files.
+-- The laws of scans and their files: numbers, what is read of a scan, scans both ways, files; of scans tallied.
 pub mod Numbers
 pub mod Reading
 pub mod Scans
 pub mod Files
+pub mod Tallies

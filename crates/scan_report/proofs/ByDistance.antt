@@ -9,7 +9,7 @@ use Rattle.ion.specs.declared.Distance.{Distance}
 use Rattle.order.proofs.Orders.{by-order}
 use Rattle.scans.specs.Tally.{kindBeside}
 use Rattle.scans.specs.declared.Kind.TheVariants.{Double, Kept, Gap, Backward}
-use Rattle.scans.proofs.KindsByDistance.{kindAt, kind-by-distance}
+use Rattle.scan_report.proofs.KindsByDistance.{kindAt, kind-by-distance}
 
 -- the sign as it is tested
 earlier : (n m : ℕ) → lt_z (to_z w32 (of_z w32 (orderOf n m))) (pos 0) ≡ ltb n m

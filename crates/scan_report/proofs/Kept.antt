@@ -6,8 +6,9 @@ use Rattle.std.proofs.Math.Seq.{length-take-le, take-set-lt}
 use Rattle.std.proofs.lemmas.Grind.{take-set_at}
 use Rattle.scans.specs.Tally.{noScan, placeOf, withLast}
 use Rattle.scans.specs.declared.Scan.{Scan}
-use Rattle.scans.proofs.Tallies.{place-within}
-use Rattle.scans.proofs.Posts.{None, Apart, place-at, none-there, last-push, last-set, apart-last}
+use Rattle.scan_laws.proofs.Tallies.{place-within}
+use Rattle.scan_report.specs.Kept.{Apart}
+use Rattle.scan_report.proofs.Posts.{place-at, none-there, last-push, last-set, apart-last}
 use Rattle.scan_report.specs.Moment.{IsMoment}
 use Rattle.scan_report.specs.Kept.{noMoment, IsKept}
 use Rattle.scan_report.specs.declared.moment.Moment.{Moment}

@@ -5,7 +5,7 @@ use Rattle.ion.specs.Pair.Count.{countOf}
 use Rattle.scans.specs.Tally.{placeOf, noScan, kindBeside, kindOf}
 use Rattle.scans.specs.declared.Scan.{Scan}
 use Rattle.scans.specs.declared.Kind.TheVariants.{Kept}
-use Rattle.scans.proofs.Tallies.{place-within}
+use Rattle.scan_laws.proofs.Tallies.{place-within}
 use Rattle.scan_report.specs.Moment.{IsMoment}
 use Rattle.scan_report.specs.declared.moment.Moment.{Moment}
 

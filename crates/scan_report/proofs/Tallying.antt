@@ -21,9 +21,9 @@ use Rattle.scans.specs.declared.Report.{Report}
 use Rattle.scans.specs.declared.ScanRead.{ScanRead}
 use Rattle.scans.specs.declared.Kind.{Kind}
 use Rattle.scans.specs.declared.Kind.TheVariants.{Kept}
-use Rattle.scans.proofs.Posts.{after-few}
+use Rattle.scan_report.proofs.Posts.{after-few}
 use Rattle.scan_report.proofs.Places.{first-kept}
-use Rattle.scans.proofs.Tallies.{place-within, Sums, sums, all-counted, last-new, never-fewer, tally-append, tally-next}
+use Rattle.scan_laws.proofs.Tallies.{place-within, Sums, sums, all-counted, last-new, never-fewer, tally-append, tally-next}
 use Rattle.scan_laws.proofs.Scans.{scan-advances, scan-inverse}
 
 -- ---- the number of a file, by what it holds

@@ -1,10 +1,18 @@
 -- What holds of the last kept scans as a program has them: the first `len` of an array of 256, and the moment of each. Assumes nothing.
-use Rattle.std.specs.Prelude.{ℕ, ◌≡◌, ◌≤◌, ◌<◌, List, length, take, get_or}
-use Rattle.scans.specs.Tally.{noScan}
+use Rattle.std.specs.Prelude.{ℕ, ◌≡◌, ◌≤◌, ◌<◌, List, [], ◌∷◌, length, take, get_or}
+use Rattle.scans.specs.Tally.{noScan, placeOf}
 use Rattle.scans.specs.declared.Scan.{Scan}
-use Rattle.scans.proofs.Posts.{Apart}
 use Rattle.scan_report.specs.Moment.{IsMoment}
 use Rattle.scan_report.specs.declared.moment.Moment.{Moment}
+
+-- none of the scans l is of x's tag
+abbrev pub None : Scan → List Scan → Type 0
+None x l = placeOf x l ≡ length l
+
+-- no scan is of the tag of one before it
+abbrev pub Apart : List Scan → Type 0
+Apart [] = Unit
+Apart (y ∷ l) = None y l × Apart l
 
 abbrev pub noMoment : Moment
 noMoment = record { seconds = 0; attoseconds = 0 }

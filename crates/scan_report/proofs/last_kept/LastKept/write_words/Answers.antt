@@ -2,7 +2,7 @@
 use Rattle.std.proofs.Common.{◌≡◌, ◌+◌, ◌-◌, ◌*◌, ◌≤◌, List, length, take, sym, ap, ◌∙◌, subst, arith}
 use Rattle.scans.specs.Report.{wordsFor}
 use Rattle.scans.specs.declared.Scan.{Scan}
-use Rattle.scans.proofs.Words.{Begun, begun-none, begun-more, begun-zeros, begun-zero, begun-all, length-words}
+use Rattle.scan_report.proofs.Words.{Begun, begun-none, begun-more, begun-zeros, begun-zero, begun-all, length-words}
 use Rattle.scan_report.proofs.Kept.{kept-length}
 use Rattle.scan_report.proofs.last_kept.LastKept.write_words.Goals as goal
 

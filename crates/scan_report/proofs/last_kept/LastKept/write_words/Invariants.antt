@@ -2,7 +2,7 @@
 use Rattle.std.proofs.Common.{◌≡◌, ℕ, ◌+◌, ◌-◌, ◌*◌, ◌≤◌, ◌++◌, length, take}
 use Rattle.std.proofs.Math.ListN.{replicate}
 use Rattle.scans.specs.Report.{wordsFor}
-use Rattle.scans.proofs.Words.{Begun}
+use Rattle.scan_report.proofs.Words.{Begun}
 use Rattle.scan_report.proofs.last_kept.LastKept.write_words.Given as goal
 
 abbrev pub invariant-loop-i : goal.invariant-loop-i

@@ -2,20 +2,12 @@
 use Rattle.std.proofs.Common.{◌≡◌, refl, sym, ap, ◌∙◌, ℕ, zero, suc, ◌+◌, ◌<◌, Bool, true, false, cond, List, [], ◌∷◌, ◌++◌, ◌≤◌, length, get_or, set, length-set, arith}
 use borrow.Author.Tests.{eqb-true, eqb-false, eq-eqb, ne_eqb}
 use native.Mathlib.Decide.{dec_lt}
+use Rattle.scan_report.specs.Kept.{None, Apart}
 use Rattle.scans.specs.Tally.{samePost, placeOf, withLast, lastAfter}
-use Rattle.scans.proofs.Tallies.{place-within, last-length}
+use Rattle.scan_laws.proofs.Tallies.{place-within, last-length}
 use Rattle.scans.specs.declared.Scan.{Scan}
 use Rattle.scans.specs.declared.Kind.{Kind}
 use Rattle.scans.specs.declared.Kind.TheVariants.{Double, Kept, Gap, Backward}
-
--- none of the scans l is of x's tag
-abbrev pub None : Scan → List Scan → Type 0
-None x l = placeOf x l ≡ length l
-
--- no scan is of the tag of one before it
-abbrev pub Apart : List Scan → Type 0
-Apart [] = Unit
-Apart (y ∷ l) = None y l × Apart l
 
 none-first : (x y : Scan) (l : List Scan) → None x (y ∷ l) → (samePost x y ≡ false) × None x l
 unfolding placeOf
