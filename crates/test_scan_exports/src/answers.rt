@@ -1,7 +1,7 @@
 // Answers handed out: the number is returned, the rest is stored through references.
-ghost use Rattle.test_scan_exports.specs.Answers.{ScanIs, FileIs};
+ghost use Rattle.test_scan_exports.specs.Answers.{ScanIs, FileIs, ReportIs};
 
-use scans::{FileRead, ScanRead};
+use scans::{FileRead, Report, ScanRead};
 
 pub(crate) fn store_scan(
     x: ScanRead,
@@ -27,5 +27,13 @@ pub(crate) fn store_file(x: FileRead, scans: &mut usize) -> u32
     ensures { FileIs x result scans.new }
 {
     *scans = x.scans;
+    x.number
+}
+
+pub(crate) fn store_report(x: Report, counts: &mut [u64; 5]) -> u32
+    ensures { ReportIs x result counts.new }
+{
+    let c = x.counts;
+    *counts = [c.scans, c.doubles, c.kept, c.gaps, c.backward];
     x.number
 }

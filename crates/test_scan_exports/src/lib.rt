@@ -3,4 +3,5 @@
 #![tactic(auto)]
 
 mod answers;
+mod reporting;
 mod scanning;
