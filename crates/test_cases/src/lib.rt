@@ -2,11 +2,13 @@
 // The file's format stands in differential/README.md.
 #![tactic(auto)]
 
+mod reports;
 mod scans_read;
 mod written;
 
 ghost use Rattle.std.specs.Prelude.{◌≤◌};
 
+use reports::report_agrees;
 use scans_read::{file_agrees, scan_agrees};
 use test_answers::{
     build_agrees, check_agrees, count_at, distance_agrees, order_agrees, read_agrees, text_agrees,
@@ -31,6 +33,7 @@ fn head_length(kind: u8) -> usize
         13 => 27,
         14 => 26,
         15 => 3,
+        16 => 65,
         _ => 256,
     }
 }
@@ -38,7 +41,7 @@ fn head_length(kind: u8) -> usize
 // Whether a run of bytes ends a case of the kind, after its length.
 fn has_run(kind: u8) -> bool {
     match kind {
-        5..=7 | 9..=15 => true,
+        5..=7 | 9..=16 => true,
         _ => false,
     }
 }
@@ -64,6 +67,7 @@ pub fn agrees(kind: u8, r: &[u8]) -> bool {
         12 => text_agrees(r),
         13 => scan_agrees(r),
         15 => file_agrees(r),
+        16 => report_agrees(r),
         5 | 6 | 9..=11 | 14 => written_agrees(kind, r, head_length(kind)),
         _ => false,
     }
