@@ -1,6 +1,6 @@
 -- What holds of a tally: its counts add up, every scan is of one kind, and the last kept scans only become more. Assumes nothing.
-use Rattle.std.proofs.Common.{◌≡◌, refl, ap, ◌∙◌, ℕ, zero, suc, ◌+◌, ◌≤◌, ◌<◌, Bool, true, false, cond, List, [], ◌∷◌, ◌++◌, length, take, drop, get_or, arith}
-use Rattle.scans.specs.Tally.{samePost, placeOf, withLast, kindOf, noCounts, countsOf, added, lastAfter, Tally, noTally, tallied, tallyFrom, tallyOf}
+use Rattle.std.proofs.Common.{◌≡◌, refl, ap, ℕ, zero, suc, ◌+◌, ◌≤◌, ◌<◌, Bool, true, false, cond, List, [], ◌∷◌, ◌++◌, length, take, drop, get_or, arith}
+use Rattle.scans.specs.Tally.{samePost, placeOf, withLast, kindOf, countsOf, added, lastAfter, Tally, noTally, tallied, tallyFrom, tallyOf}
 use Rattle.scans.specs.declared.Scan.{Scan}
 use Rattle.scans.specs.declared.Counts.{Counts}
 use Rattle.scans.specs.declared.Kind.{Kind}

@@ -1,5 +1,5 @@
 -- What a scan is, by its place among the last kept ones and by its moment. Assumes nothing.
-use Rattle.std.proofs.Common.{◌≡◌, refl, sym, ap, ap₂, ◌∙◌, ℕ, ◌+◌, ◌*◌, ◌^◌, ◌≤◌, ◌<◌, List, length, get_or, arith}
+use Rattle.std.proofs.Common.{◌≡◌, sym, ap, ap₂, ◌∙◌, ℕ, ◌+◌, ◌*◌, ◌^◌, ◌<◌, List, length, get_or, arith}
 use borrow.Author.Tests.{eq-eqb, ne_eqb}
 use Rattle.ion.specs.Pair.Count.{countOf}
 use Rattle.scans.specs.Tally.{placeOf, noScan, kindBeside, kindOf}

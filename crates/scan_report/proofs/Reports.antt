@@ -1,9 +1,9 @@
 -- The report and the words after it, by the two numbers: of what is lent, and of the file. Assumes nothing.
-use Rattle.std.proofs.Common.{◌≡◌, refl, sym, ap, ◌∙◌, ℕ, ◌≤◌, ◌<◌, Bool, true, false, cond, List, length, eqb, arith}
-use borrow.Author.Tests.{lt-ltb, le-ltb, eqb-true}
+use Rattle.std.proofs.Common.{◌≡◌, sym, ap, ◌∙◌, ℕ, ◌≤◌, ◌<◌, List, length}
+use borrow.Author.Tests.{lt-ltb, le-ltb}
 use native.Mathlib.Decide.{ℕ_discrete}
 use Rattle.ion.specs.Calls.Refusal.{wordsRefused, windowRefused}
-use Rattle.ion.specs.Calls.Answered.{answered, firstRefusal}
+use Rattle.ion.specs.Calls.Answered.{answered}
 use Rattle.ion.proofs.Answers.{answered-zero, answered-refused}
 use Rattle.scans.specs.Report.{wordCount, longestWindow, wordsOver, fileTally, lentNumber, fileNumber, reportNumber}
 use Rattle.scans.specs.Report.{reported, refusedReport, reportOf, wordsAfter}

@@ -1,5 +1,5 @@
 -- A file tallied part way: the scans passed, the last kept of them, and the counts. Assumes nothing.
-use Rattle.std.proofs.Common.{◌≡◌, refl, sym, ap, ap₂, ◌∙◌, ℕ, suc, ◌+◌, ◌-◌, ◌≤◌, ◌<◌, ◌^◌, Bool, cond, List, [], ◌∷◌, ◌++◌, length, take, drop, length-append, subst, arith, ltb}
+use Rattle.std.proofs.Common.{◌≡◌, refl, sym, ap, ◌∙◌, ℕ, ◌+◌, ◌-◌, ◌≤◌, ◌<◌, List, [], ◌∷◌, ◌++◌, length, take, drop, length-append, subst, arith}
 use borrow.Author.Tests.{lt-ltb, le-ltb}
 use Rattle.places.proofs.Slices.{rest-slice}
 use Rattle.places.proofs.Below.{Below, below-drop}
@@ -9,15 +9,13 @@ use Rattle.ion.specs.Calls.Answered.{answered}
 use Rattle.ion.specs.Calls.Contents.{Contents, contentsWith, contents}
 use Rattle.ion.proofs.Answers.{answered-zero, answered-refused}
 use Rattle.contents.proofs.Readers.{ReadsAs}
-use Rattle.contents.proofs.Items.{allBefore}
 use Rattle.contents.proofs.Passing.{Passed, pass-start, pass-next, pass-within, pass-less, pass-stop, pass-end}
 use Rattle.scans.specs.Scan.{readScan}
 use Rattle.scans.specs.File.{scanReader, contentsOf}
-use Rattle.scans.specs.Tally.{Tally, noTally, kindOf, noCounts, countsOf, added, lastAfter, withLast, placeOf, tallied, tallyOf, tallyFrom}
+use Rattle.scans.specs.Tally.{Tally, noTally, kindOf, noCounts, countsOf, added, lastAfter, placeOf, tallied, tallyOf, tallyFrom}
 use Rattle.scans.specs.Report.{fileTally, fileNumber, reported, refusedReport}
 use Rattle.scans.specs.declared.Scan.{Scan}
 use Rattle.scans.specs.declared.Counts.{Counts}
-use Rattle.scans.specs.declared.Report.{Report}
 use Rattle.scans.specs.declared.ScanRead.{ScanRead}
 use Rattle.scans.specs.declared.Kind.{Kind}
 use Rattle.scans.specs.declared.Kind.TheVariants.{Kept}
@@ -77,8 +75,7 @@ module _ {w g : ℕ} {s : List ℕ} {at : ℕ} {c : Counts} {l : List Scan} (p :
   pub bounded : (c.scans ≤ at) × (c.doubles ≤ at) × (c.kept ≤ at) × (c.gaps ≤ at) × (c.backward ≤ at)
   bounded =
       let q : Sums c = subst Sums (sym p.counts) (sums w g p.scans) in
-      let n = ap (λ (c : Counts). c.scans) p.counts ∙ all-counted w g p.scans in
-      (
+      let n = ap (λ (c : Counts). c.scans) p.counts ∙ all-counted w g p.scans in (
         omega (arith, n, p.few),
         omega (arith, n, p.few, q.all),
         omega (arith, n, p.few, q.all),
@@ -91,8 +88,7 @@ module _ {w g : ℕ} {s : List ℕ} {at : ℕ} {c : Counts} {l : List Scan} (p :
   ended : {n : ℕ} → contentsOf s ≡ contentsWith p.scans n
       → ((c ≡ (fileTally w g s).counts) × (l ≡ (fileTally w g s).last)) × (length (tallyOf w g p.scans).last ≤ 256)
   ended e =
-      let same = ap (λ (d : Contents Scan). tallyOf w g d.items) (sym e) in
-      (
+      let same = ap (λ (d : Contents Scan). tallyOf w g d.items) (sym e) in (
         (p.counts ∙ ap (λ (t : Tally). t.counts) same, p.kept ∙ ap (λ (t : Tally). t.last) same),
         subst (λ (m : List Scan). length m ≤ 256) p.kept p.tags,
       )

@@ -1,5 +1,5 @@
 -- A count in whole seconds and the attoseconds after them. Assumes nothing.
-use Rattle.std.specs.Prelude.{ℕ, ◌+◌, ◌*◌, ◌/◌, ◌%◌, ◌^◌, ◌≡◌, ◌<◌}
+use Rattle.std.specs.Prelude.{◌+◌, ◌*◌, ◌^◌, ◌≡◌, ◌<◌}
 use Rattle.ion.specs.Pair.Count.{countOf}
 use Rattle.ion.specs.declared.Timestamp.{Timestamp}
 use Rattle.scan_report.specs.declared.moment.Moment.{Moment}

@@ -1,6 +1,6 @@
 -- Reports at their edges, as one table of rows and one theorem: what the definitions give at each row is what the row states. Words, counts and
 -- distances are worked out by hand from the request. Assumes nothing.
-use Rattle.std.proofs.Common.{◌≡◌, refl, ℕ, zero, suc, ◌+◌, ◌-◌, ◌*◌, ◌^◌, List, [], ◌∷◌, ◌++◌, length, take, replicate, map}
+use Rattle.std.proofs.Common.{◌≡◌, refl, ℕ, zero, suc, ◌+◌, ◌-◌, ◌*◌, ◌^◌, List, [], ◌∷◌, ◌++◌, length, replicate, map}
 use Rattle.places.specs.Places.{placesOn, places, countIn, count, placeCount, valueFrom}
 use Rattle.ion.specs.Numbers.VarUInt.{groups, varuint, scanFrom, readVarUInt}
 use Rattle.ion.specs.Numbers.VarInt.{signedCount, signed, varint, readVarInt}

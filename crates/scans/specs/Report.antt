@@ -4,7 +4,7 @@ use Rattle.ion.specs.Pair.Pair.{wordIn}
 use Rattle.ion.specs.Calls.Refusal.{wordsRefused, windowRefused, tagsRefused}
 use Rattle.ion.specs.Calls.Answered.{answered, firstRefusal}
 use Rattle.ion.specs.Calls.Build.{firstOf}
-use Rattle.ion.specs.Calls.Contents.{Contents, inTurn}
+use Rattle.ion.specs.Calls.Contents.{inTurn}
 use Rattle.scans.specs.File.{contentsOf}
 use Rattle.scans.specs.Tally.{Tally, noCounts, tallyOf}
 use Rattle.scans.specs.declared.Scan.{Scan}

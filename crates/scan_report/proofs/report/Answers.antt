@@ -1,6 +1,5 @@
 -- `report` meets its contract.
-use Rattle.std.proofs.Common.{◌≡◌, ℕ, rules, arith}
-use Rattle.scans.specs.Report.{lentNumber}
+use Rattle.std.proofs.Common.{arith}
 use Rattle.scan_report.proofs.Reports.{few-words, long-window, lent-enough, report-unread, words-unread, report-read, words-read, words-refused}
 use Rattle.scan_report.proofs.report.Goals as goal
 

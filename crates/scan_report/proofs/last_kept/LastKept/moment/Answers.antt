@@ -1,5 +1,4 @@
 -- `LastKept::moment` meets its contract.
-use Rattle.std.proofs.Common.{arith}
 use Rattle.scan_report.proofs.Kept.{moment-at}
 use Rattle.scan_report.proofs.last_kept.LastKept.moment.Goals as goal
 

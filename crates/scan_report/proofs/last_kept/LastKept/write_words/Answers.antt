@@ -1,5 +1,5 @@
 -- `LastKept::write_words` meets its contract.
-use Rattle.std.proofs.Common.{◌≡◌, ◌+◌, ◌-◌, ◌*◌, ◌≤◌, List, length, take, sym, ap, ◌∙◌, subst, arith}
+use Rattle.std.proofs.Common.{◌≡◌, ◌+◌, ◌-◌, List, take, ap, ◌∙◌, subst, arith}
 use Rattle.scans.specs.Report.{wordsFor}
 use Rattle.scans.specs.declared.Scan.{Scan}
 use Rattle.scan_report.proofs.Words.{Begun, begun-none, begun-more, begun-zeros, begun-zero, begun-all, length-words}

@@ -1,5 +1,5 @@
 -- The loops of `LastKept::write_words`: the words of the first i scans, and then all of them and zeros up to j.
-use Rattle.std.proofs.Common.{◌≡◌, ℕ, ◌+◌, ◌-◌, ◌*◌, ◌≤◌, ◌++◌, length, take}
+use Rattle.std.proofs.Common.{◌≡◌, ◌-◌, ◌*◌, ◌≤◌, ◌++◌, length, take}
 use Rattle.std.proofs.Math.ListN.{replicate}
 use Rattle.scans.specs.Report.{wordsFor}
 use Rattle.scan_report.proofs.Words.{Begun}
