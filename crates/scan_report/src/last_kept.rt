@@ -15,8 +15,12 @@ pub(crate) const TAG_COUNT: usize = 256;
 // How many words they have.
 pub(crate) const WORD_COUNT: usize = 768;
 
-// How many hints there are: a power of two.
-const HINT_COUNT: usize = 1024;
+// The hint of a tag: the high bits of a product, so that tags alike in their low or high bits have different ones.
+fn hint_of(tag: u32) -> usize
+    ensures { result < 1024 }
+{
+    (tag.wrapping_mul(0x9E37_79B1) >> 22) as usize
+}
 
 #[derive(Drop)]
 pub(crate) struct LastKept {
@@ -72,7 +76,7 @@ impl LastKept {
     pub fn place(&self, x: Scan) -> usize
         ensures { result ≡ placeOf x self.now }
     {
-        let hint = self.hints[(x.tag % 1024) as usize] as usize;
+        let hint = self.hints[hint_of(x.tag)] as usize;
         if hint < self.len && self.scans[hint].tag == x.tag {
             return hint;
         }
@@ -103,7 +107,7 @@ impl LastKept {
     {
         self.scans[place] = x;
         self.moments[place] = moment;
-        self.hints[(x.tag % 1024) as usize] = (place % 256) as u8;
+        self.hints[hint_of(x.tag)] = (place % 256) as u8;
         if place == self.len {
             self.len += 1;
         }
