@@ -36,7 +36,8 @@ pub(crate) fn kind_beside(w: u32, g: u32, last: Moment, moment: Moment) -> Kind
 
 // With a scan of a kind more.
 pub(crate) fn counted(c: Counts, kind: Kind) -> Counts
-    requires { (c.scans + 1 < 2 ^ 64) × (c.doubles + 1 < 2 ^ 64) × (c.kept + 1 < 2 ^ 64) × (c.gaps + 1 < 2 ^ 64) × (c.backward + 1 < 2 ^ 64) }
+    requires { (c.scans + 1 < 2 ^ 64) × (c.doubles + 1 < 2 ^ 64) × (c.kept + 1 < 2 ^ 64)
+        × (c.gaps + 1 < 2 ^ 64) × (c.backward + 1 < 2 ^ 64) }
     ensures { result ≡ added c (countsOf kind) }
 {
     let scans = c.scans + 1;

@@ -12,18 +12,20 @@ use crate::moment::{Moment, moment_of};
 use ion::refusal;
 use scans::{Counts, Kind, Report, Scan};
 
+const NO_COUNTS: Counts = Counts {
+    scans: 0,
+    doubles: 0,
+    kept: 0,
+    gaps: 0,
+    backward: 0,
+};
+
 pub(crate) fn refused(number: u32) -> Report
     ensures { result ≡ refusedReport number }
 {
     Report {
         number: number,
-        counts: Counts {
-            scans: 0,
-            doubles: 0,
-            kept: 0,
-            gaps: 0,
-            backward: 0,
-        },
+        counts: NO_COUNTS,
     }
 }
 
@@ -64,13 +66,7 @@ pub(crate) fn tally(s: &[u8], w: u32, g: u32, last: &mut LastKept) -> Report
     ensures last { fileNumber w g s.now ≡ 0 → last.new ≡ (fileTally w g s.now).last }
 {
     let mut at = 0;
-    let mut counts = Counts {
-        scans: 0,
-        doubles: 0,
-        kept: 0,
-        gaps: 0,
-        backward: 0,
-    };
+    let mut counts = NO_COUNTS;
     while at < s.len() {
         let r = scan_binary::read_scan(&s[at..]);
         let number = r.number;
