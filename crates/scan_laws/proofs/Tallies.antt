@@ -1,5 +1,6 @@
 -- What holds of a tally: its counts add up, every scan is of one kind, and the last kept scans only become more. Assumes nothing.
-use Rattle.std.proofs.Common.{◌≡◌, refl, ap, ℕ, zero, suc, ◌+◌, ◌≤◌, ◌<◌, Bool, true, false, cond, List, [], ◌∷◌, ◌++◌, length, take, drop, get_or, arith}
+use Rattle.std.proofs.Common.{◌≡◌, refl, ap, ℕ, zero, suc, ◌+◌, ◌≤◌, ◌<◌, Bool, true}
+use Rattle.std.proofs.Common.{false, cond, List, [], ◌∷◌, ◌++◌, length, take, drop, get_or, arith}
 use Rattle.scans.specs.Tally.{samePost, placeOf, withLast, kindOf, countsOf, added, lastAfter, Tally, noTally, tallied, tallyFrom, tallyOf}
 use Rattle.scans.specs.declared.Scan.{Scan}
 use Rattle.scans.specs.declared.Counts.{Counts}
@@ -77,7 +78,8 @@ last-length x (y ∷ l) = go (last-length x l) (samePost x y)
   where
     go : (length l ≤ length (withLast x l)) × (length (withLast x l) ≤ suc (length l))
         → (t : Bool)
-        → (suc (length l) ≤ length (cond t (x ∷ l) (y ∷ withLast x l))) × (length (cond t (x ∷ l) (y ∷ withLast x l)) ≤ suc (suc (length l)))
+        → (suc (length l) ≤ length (cond t (x ∷ l) (y ∷ withLast x l)))
+        × (length (cond t (x ∷ l) (y ∷ withLast x l)) ≤ suc (suc (length l)))
     go h true = (omega arith, omega arith)
     go h false = (omega (arith, h.0), omega (arith, h.1))
 

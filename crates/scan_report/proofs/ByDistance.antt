@@ -39,7 +39,8 @@ module _ (w g m n : ℕ) {d : Distance} (e : d ≡ distanceOfCounts n m) where
 
       pub beside-just : d.seconds ≡ g → 0 < d.attoseconds → Gap ≡ kindBeside w g m n
       beside-just s l =
-          sym (simp (le-ltb d.seconds w h, k, le-ltb g d.seconds (omega arith), eq-eqb d.seconds g s, lt-ltb 0 d.attoseconds l)) ∙ by-distance
+          let more = lt-ltb 0 d.attoseconds l in
+          sym (simp (le-ltb d.seconds w h, k, le-ltb g d.seconds (omega arith), eq-eqb d.seconds g s, more)) ∙ by-distance
 
       pub beside-kept : d.seconds ≤ g → (d.seconds ≡ g × (d.attoseconds ≤ 0)) ⊎ (d.seconds ≡ g → ⊥) → Kept ≡ kindBeside w g m n
       beside-kept l o = go o ∙ by-distance

@@ -65,7 +65,8 @@ module _ {n : ℕ} {a l : List Scan} {b : List Moment} (k : IsKept n a b) (v : t
         where
           go : Dec (j ≡ i) → IsMoment (get_or (set a i x) j noScan).stamp (get_or (set b i m) j noMoment)
           go (yes e) =
-              let s : get_or (set a i x) j noScan ≡ x = ap (λ (j : ℕ). get_or (set a i x) j noScan) e ∙ get_or-set_same a i x noScan (omega (arith, k.size)) in
+              let s : get_or (set a i x) j noScan ≡ x =
+              ap (λ (j : ℕ). get_or (set a i x) j noScan) e ∙ get_or-set_same a i x noScan (omega (arith, k.size)) in
               let t : get_or (set b i m) j noMoment ≡ m =
               ap (λ (j : ℕ). get_or (set b i m) j noMoment) e ∙ get_or-set_same b i m noMoment (omega (arith, k.moment-size)) in
               subst (λ (y : Scan). IsMoment y.stamp (get_or (set b i m) j noMoment)) (sym s) (subst (IsMoment x.stamp) (sym t) q)

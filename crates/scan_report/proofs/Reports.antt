@@ -58,7 +58,8 @@ module _ (d : List ℕ) (w g : ℕ) (s : List ℕ) where
           go : Dec (fileNumber w g s ≡ 0)
               → (answered (fileNumber w g s) (reported (fileTally w g s).counts) refusedReport).number ≡ fileNumber w g s
           go (yes q) = ap (λ (r : Report). r.number) (answered-zero (fileNumber w g s) _ refusedReport q) ∙ sym q
-          go (no q) = ap (λ (r : Report). r.number) (answered-refused (fileNumber w g s) (reported (fileTally w g s).counts) refusedReport q)
+          go (no q) =
+              ap (λ (r : Report). r.number) (answered-refused (fileNumber w g s) (reported (fileTally w g s).counts) refusedReport q)
 
       pub words-read : (l : List Scan) {f : List ℕ} → r.number ≡ 0 → (fileNumber w g s ≡ 0 → l ≡ (fileTally w g s).last) → f ≡ wordsOver d l
           → f ≡ wordsAfter d w g s

@@ -1,5 +1,6 @@
 -- A file tallied part way: the scans passed, the last kept of them, and the counts. Assumes nothing.
-use Rattle.std.proofs.Common.{◌≡◌, refl, sym, ap, ◌∙◌, ℕ, ◌+◌, ◌-◌, ◌≤◌, ◌<◌, List, [], ◌∷◌, ◌++◌, length, take, drop, length-append, subst, arith}
+use Rattle.std.proofs.Common.{◌≡◌, refl, sym, ap, ◌∙◌, ℕ, ◌+◌, ◌-◌, ◌≤◌, ◌<◌}
+use Rattle.std.proofs.Common.{List, [], ◌∷◌, ◌++◌, length, take, drop, length-append, subst, arith}
 use borrow.Author.Tests.{lt-ltb, le-ltb}
 use Rattle.places.proofs.Slices.{rest-slice}
 use Rattle.places.proofs.Below.{Below, below-drop}

@@ -1,5 +1,7 @@
 -- The words of the last kept scans: three for each, and zeros after them. Assumes nothing.
-use Rattle.std.proofs.Common.{◌≡◌, refl, sym, ap, ◌∙◌, ℕ, suc, ◌+◌, ◌-◌, ◌*◌, ◌≤◌, ◌<◌, List, [], ◌∷◌, ◌++◌, length, take, drop, get_or, set, replicate, append_assoc, append-nil, length-append, length-drop, drop-cons, subst, arith}
+use Rattle.std.proofs.Common.{◌≡◌, refl, sym, ap, ◌∙◌, ℕ, suc, ◌+◌, ◌-◌, ◌*◌, ◌≤◌, ◌<◌, List, [], ◌∷◌}
+use Rattle.std.proofs.Common.{◌++◌, length, take, drop, get_or, set, replicate, append_assoc, append-nil, length-append, length-drop}
+use Rattle.std.proofs.Common.{drop-cons, subst, arith}
 use Rattle.std.proofs.Math.ListN.{length-replicate}
 use Rattle.std.proofs.lemmas.Grind.{replicate_next}
 use Rattle.std.proofs.Math.Seq.{set-append_seam, length-take-le}
@@ -51,7 +53,8 @@ begun-next {d} {p} {e} i x b h l =
     }
 
 -- the words of one scan more
-pub begun-scan : {d e : List ℕ} (l : List Scan) (x : Scan) (i : ℕ) → Begun d (wordsFor l) e → i ≡ length l * wordSize → i + wordSize ≤ length d
+pub begun-scan : {d e : List ℕ} (l : List Scan) (x : Scan) (i : ℕ)
+    → Begun d (wordsFor l) e → i ≡ length l * wordSize → i + wordSize ≤ length d
     → Begun d (wordsFor (l ++ (x ∷ []))) (set (set (set e i x.tag) (i + 1) (wordIn x.stamp)) (i + 2) x.stamp.attoseconds)
 begun-scan {d} {e} l x i b h k =
     let p = wordsFor l in
@@ -63,11 +66,15 @@ begun-scan {d} {e} l x i b h k =
     let first = begun-next i x.tag b (omega arith) (omega arith) in
     let second = begun-next (i + 1) (wordIn x.stamp) first m (omega arith) in
     let third = begun-next (i + 2) x.stamp.attoseconds second o (omega arith) in
-    let same = append_assoc q (wordIn x.stamp ∷ []) (x.stamp.attoseconds ∷ []) ∙ append_assoc p (x.tag ∷ []) (wordIn x.stamp ∷ x.stamp.attoseconds ∷ []) ∙ sym (words-push l x) in
+    let same =
+    append_assoc q (wordIn x.stamp ∷ []) (x.stamp.attoseconds ∷ [])
+    ∙ append_assoc p (x.tag ∷ []) (wordIn x.stamp ∷ x.stamp.attoseconds ∷ [])
+    ∙ sym (words-push l x) in
     subst (λ (w : List ℕ). Begun d w (set (set (set e i x.tag) (i + 1) (wordIn x.stamp)) (i + 2) x.stamp.attoseconds)) same third
 
 -- the same of the scans in front of an array
-pub begun-more : {d e : List ℕ} (a : List Scan) (i at : ℕ) → Begun d (wordsFor (take i a)) e → at ≡ i * wordSize → i < length a → at + wordSize ≤ length d
+pub begun-more : {d e : List ℕ} (a : List Scan) (i at : ℕ)
+    → Begun d (wordsFor (take i a)) e → at ≡ i * wordSize → i < length a → at + wordSize ≤ length d
     → let x = get_or a i noScan in
     Begun d (wordsFor (take (i + 1) a)) (set (set (set e at x.tag) (at + 1) (wordIn x.stamp)) (at + 2) x.stamp.attoseconds)
 begun-more {d} {e} a i at b h l k =

@@ -1,5 +1,5 @@
--- Reports at their edges, as one table of rows and one theorem: what the definitions give at each row is what the row states. Words, counts and
--- distances are worked out by hand from the request. Assumes nothing.
+-- Reports at their edges, as one table of rows and one theorem: what the definitions give at each row is what the row states.
+-- Words, counts and distances are worked out by hand from the request. Assumes nothing.
 use Rattle.std.proofs.Common.{◌≡◌, refl, ℕ, zero, suc, ◌+◌, ◌-◌, ◌*◌, ◌^◌, List, [], ◌∷◌, ◌++◌, length, replicate, map}
 use Rattle.places.specs.Places.{placesOn, places, countIn, count, placeCount, valueFrom}
 use Rattle.ion.specs.Numbers.VarUInt.{groups, varuint, scanFrom, readVarUInt}
@@ -122,7 +122,8 @@ reportRows =
     ∷ reports 1 0 (fileBytes (scanOf 9 1 p9-east ∷ scanOf 9 1 p9-west ∷ [])) (countsWith 2 1 1 0 0)
     (9 ∷ p9-east.packed_fields ∷ 0 ∷ [])
     -- tags apart, in the order of their first scans; other guards make no difference
-    ∷ reports 5 60 (fileBytes (at 9 10 ∷ at 4 11 ∷ at 9 40 ∷ scanOf 4 2 (at 4 12).stamp ∷ [])) (countsWith 4 1 3 0 0) (wordsAt 9 40 ++ wordsAt 4 11)
+    ∷ reports 5 60 (fileBytes (at 9 10 ∷ at 4 11 ∷ at 9 40 ∷ scanOf 4 2 (at 4 12).stamp ∷ [])) (countsWith 4 1 3 0 0)
+    (wordsAt 9 40 ++ wordsAt 4 11)
     -- the longest W and G
     ∷ reports 86400 4294967295 (fileBytes (at 9 10 ∷ at 9 11 ∷ [])) (countsWith 2 1 1 0 0) (wordsAt 9 10)
     -- too few words, before W; W too long, before the file; nothing lent
@@ -147,8 +148,8 @@ reportRows =
 
 -- every row
 pub report-examples : map (λ (r : Row). r.given) reportRows ≡ map (λ (r : Row). r.stated) reportRows
-unfolding reportRows clockWord at finer wordsAt p9-east p9-west yearOne tagsBelow wordsBelow lent reports refuses placesOn places countIn count
-    placeCount valueFrom groups varuint scanFrom readVarUInt signedCount signed varint readVarInt intCount int readInt decimalBytes isLeap
+unfolding reportRows clockWord at finer wordsAt p9-east p9-west yearOne tagsBelow wordsBelow lent reports refuses placesOn places
+    countIn count placeCount valueFrom groups varuint scanFrom readVarUInt signedCount signed varint readVarInt intCount int readInt decimalBytes isLeap
     monthLengthOf sumBelow wordOf fieldsOf capped countOf buildOf buildNumber buildPair checkOf utcFields offsetBytes varuints fieldCount
     fractionBytes bodyFrom bodyOf header valueOf decodeOffset decodeFields decodeFraction filled precisionWith decodeBody pairFrom same
     isBodyOf readBody readAfter readLength readValue contentsFrom contents inTurn readNumber scanBytes readScan contentsOf fileBytes placeOf

@@ -1,6 +1,7 @@
 -- The proleptic Gregorian calendar, year 0 being a leap year: lengths of years and months, and the number of a day
 -- from 0000-01-01, by summing those lengths. Assumes nothing.
-use Rattle.std.specs.Prelude.{ℕ, zero, suc, ◌+◌, ◌-◌, ◌%◌, ◌≤◌, ◌<◌, Bool, true, false, not, cond, ◌&&◌, ◌||◌, List, [], ◌∷◌, ◌≡◌, ◌⊎◌, eqb, leb, ltb, get_or}
+use Rattle.std.specs.Prelude.{ℕ, zero, suc, ◌+◌, ◌-◌, ◌%◌, ◌≤◌, ◌<◌, Bool, true, false, not}
+use Rattle.std.specs.Prelude.{cond, ◌&&◌, ◌||◌, List, [], ◌∷◌, ◌≡◌, ◌⊎◌, eqb, leb, ltb, get_or}
 use Rattle.ion.specs.declared.Date.{Date}
 
 -- a year that 4 divides is a leap year, unless 100 does and 400 does not

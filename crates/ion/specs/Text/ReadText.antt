@@ -1,5 +1,6 @@
 -- Reading a timestamp's text: the five written forms, a full date also without its T, and Z for +00:00. Assumes nothing.
-use Rattle.std.specs.Prelude.{ℕ, suc, ◌+◌, ◌-◌, ◌*◌, min, Bool, cond, ◌&&◌, ◌||◌, List, [], ◌∷◌, eqb, leb, ltb, ℤ, pos, neg_ℤ, length, take, drop, get_or}
+use Rattle.std.specs.Prelude.{ℕ, suc, ◌+◌, ◌-◌, ◌*◌, min, Bool, cond, ◌&&◌, ◌||◌, List, []}
+use Rattle.std.specs.Prelude.{◌∷◌, eqb, leb, ltb, ℤ, pos, neg_ℤ, length, take, drop, get_or}
 use Prim.Native.Char.{code}
 use Rattle.places.specs.Places.{valueFrom}
 use Rattle.ion.specs.Text.Ascii.{ascii}

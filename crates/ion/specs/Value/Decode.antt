@@ -1,5 +1,6 @@
 -- The parts of a body of Ion binary, each in its shortest form. Assumes nothing.
-use Rattle.std.specs.Prelude.{ℕ, zero, suc, ◌-◌, ◌*◌, Bool, true, false, cond, not, ◌&&◌, List, [], ◌∷◌, ◌++◌, eqb, leb, ltb, pos, negsuc, length, drop, get_or}
+use Rattle.std.specs.Prelude.{ℕ, zero, suc, ◌-◌, ◌*◌, Bool, true, false, cond, not, ◌&&◌, List}
+use Rattle.std.specs.Prelude.{[], ◌∷◌, ◌++◌, eqb, leb, ltb, pos, negsuc, length, drop, get_or}
 use Rattle.ion.specs.Numbers.VarUInt.{readVarUInt}
 use Rattle.ion.specs.Numbers.VarInt.{readVarInt}
 use Rattle.ion.specs.Numbers.Int.{readInt}

@@ -1,6 +1,7 @@
 -- `report` meets its contract.
 use Rattle.std.proofs.Common.{arith}
-use Rattle.scan_report.proofs.Reports.{few-words, long-window, lent-enough, report-unread, words-unread, report-read, words-read, words-refused}
+use Rattle.scan_report.proofs.Reports.{few-words, long-window, lent-enough, report-unread}
+use Rattle.scan_report.proofs.Reports.{words-unread, report-read, words-read, words-refused}
 use Rattle.scan_report.proofs.report.Goals as goal
 
 pub returns-then-words-lt-WORD_COUNT : goal.returns-then-words-lt-WORD_COUNT

@@ -6,18 +6,30 @@ use Rattle.scan_binary.proofs.writer.put_parts.Goals as goal
 pub overflow_add-numbers : goal.overflow_add-numbers
 overflow_add-numbers c =
     let h : c.encoded_size_of.result + c.encoded_size_of-2.result ≤ 20 =
-    omega (arith, numbers-few c.args.tag c.args.guard c.ranges.tag.fits c.ranges.guard.fits, c.encoded_size_of.ensures, c.encoded_size_of-2.ensures) in
+    omega (
+      arith,
+      numbers-few c.args.tag c.args.guard c.ranges.tag.fits c.ranges.guard.fits,
+      c.encoded_size_of.ensures,
+      c.encoded_size_of-2.ensures,
+    ) in
     search (rules, h)
 
 pub overflow_add-numbers-2 : goal.overflow_add-numbers-2
 overflow_add-numbers-2 c =
     let h : c.encoded_size_of.result + c.encoded_size_of-2.result ≤ 20 =
-    omega (arith, numbers-few c.args.tag c.args.guard c.ranges.tag.fits c.ranges.guard.fits, c.encoded_size_of.ensures, c.encoded_size_of-2.ensures) in
+    omega (
+      arith,
+      numbers-few c.args.tag c.args.guard c.ranges.tag.fits c.ranges.guard.fits,
+      c.encoded_size_of.ensures,
+      c.encoded_size_of-2.ensures,
+    ) in
     search (rules, h)
 
 pub returns-then-answer-ne0 : goal.returns-then-answer-ne0
 returns-then-answer-ne0 c =
-    let p = parts-refused _ _ _ _ c.args.value.now c.encoded_size_of.ensures c.encoded_size_of-2.ensures c.room_for-answer.ensures c.if-answer-ne0.true in
+    let p =
+    parts-refused _ _ _ _ c.args.value.now c.encoded_size_of.ensures c.encoded_size_of-2.ensures c.room_for-answer.ensures
+    c.if-answer-ne0.true in
     record { value = p.0; buffer = p.1 }
 
 pub put_u64-after_tag-requires : goal.put_u64-after_tag-requires
@@ -26,13 +38,13 @@ put_u64-after_tag-requires c =
 
 pub put_u64-after_guard-requires : goal.put_u64-after_guard-requires
 put_u64-after_guard-requires c =
-    guard-room _ _ _ _ c.args.value.now c.encoded_size_of.ensures c.encoded_size_of-2.ensures c.room_for-answer.ensures c.if-answer-ne0.false
-    c.put_u64-after_tag.ensures
+    guard-room _ _ _ _ c.args.value.now c.encoded_size_of.ensures c.encoded_size_of-2.ensures c.room_for-answer.ensures
+    c.if-answer-ne0.false c.put_u64-after_tag.ensures
 
 pub copy_in-requires : goal.copy_in-requires
 copy_in-requires c =
-    value-room _ _ _ _ c.args.value.now c.encoded_size_of.ensures c.encoded_size_of-2.ensures c.room_for-answer.ensures c.if-answer-ne0.false
-    c.put_u64-after_tag.ensures c.put_u64-after_guard.ensures
+    value-room _ _ _ _ c.args.value.now c.encoded_size_of.ensures c.encoded_size_of-2.ensures c.room_for-answer.ensures
+    c.if-answer-ne0.false c.put_u64-after_tag.ensures c.put_u64-after_guard.ensures
 
 pub returns : goal.returns
 returns c =

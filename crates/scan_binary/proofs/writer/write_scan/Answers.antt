@@ -10,12 +10,14 @@ use Rattle.scan_binary.proofs.writer.write_scan.Goals as goal
 pub returns-then-number-ne0-clause-value : goal.returns-then-number-ne0-clause-value
 unfolding scanNumber
 returns-then-number-ne0-clause-value c =
-    rw (← c.check_number-number.ensures) ((stopped-writing c.check_number-number.result c.args.buf.now c.args.at (scanBytes c.args.scan) c.if-number-ne0.true).0)
+    let p = stopped-writing c.check_number-number.result c.args.buf.now c.args.at (scanBytes c.args.scan) c.if-number-ne0.true in
+    rw (← c.check_number-number.ensures) (p.0)
 
 pub returns-then-number-ne0-clause-buffer : goal.returns-then-number-ne0-clause-buffer
 unfolding scanNumber
 returns-then-number-ne0-clause-buffer c =
-    rw (← c.check_number-number.ensures) ((stopped-writing c.check_number-number.result c.args.buf.now c.args.at (scanBytes c.args.scan) c.if-number-ne0.true).1)
+    let p = stopped-writing c.check_number-number.result c.args.buf.now c.args.at (scanBytes c.args.scan) c.if-number-ne0.true in
+    rw (← c.check_number-number.ensures) (p.1)
 
 pub gather_value-value-requires : goal.gather_value-value-requires
 gather_value-value-requires c = (check-gives c.args.scan.stamp (omega (arith, c.check_number-number.ensures)), omega arith)
@@ -26,6 +28,8 @@ returns c =
     let x = c.args.scan in
     let bytes = ap (λ (v : List ℕ). varuint x.tag ++ (varuint x.guard ++ v)) c.gather_value-value.ensures.bytes in
     let p =
-    passed-writing (scanNumber x) c.args.buf.now c.args.at (scanBytes x) (sym c.check_number-number.ensures ∙ c.if-number-ne0.false)
-    (c.put_parts.ensures.value ∙ ap (wrote c.args.buf.now c.args.at) bytes, c.put_parts.ensures.buffer ∙ ap (put c.args.buf.now c.args.at) bytes) in
+    passed-writing (scanNumber x) c.args.buf.now c.args.at (scanBytes x) (sym c.check_number-number.ensures ∙ c.if-number-ne0.false) (
+      c.put_parts.ensures.value ∙ ap (wrote c.args.buf.now c.args.at) bytes,
+      c.put_parts.ensures.buffer ∙ ap (put c.args.buf.now c.args.at) bytes,
+    ) in
     record { value = p.0; buffer = p.1 }

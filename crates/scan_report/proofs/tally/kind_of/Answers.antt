@@ -13,5 +13,5 @@ moment-requires-clause-place c =
 pub returns : goal.returns
 returns c =
     c.kind_beside.ensures
-    ∙ kind-there c.args.w c.args.g c.args.last.now c.args.x c.args.place c.requires.place (λ e. c.if-place-len.false (e ∙ sym c.len.ensures))
-    c.moment.ensures c.requires.counted
+    ∙ kind-there c.args.w c.args.g c.args.last.now c.args.x c.args.place c.requires.place
+    (λ e. c.if-place-len.false (e ∙ sym c.len.ensures)) c.moment.ensures c.requires.counted

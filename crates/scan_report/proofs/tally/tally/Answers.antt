@@ -1,6 +1,7 @@
 -- `tally` meets its contract.
 use Rattle.std.proofs.Common.{◌∙◌, ◌<◌, ◌^◌, length, rules, arith}
-use Rattle.scan_report.proofs.Tallying.{start, finish, finish-last, stop, stop-last, stop-full, full-last, accepted, within, less, next-by, bounded}
+use Rattle.scan_report.proofs.Tallying.{start, finish, finish-last, stop, stop-last, stop-full}
+use Rattle.scan_report.proofs.Tallying.{full-last, accepted, within, less, next-by, bounded}
 use Rattle.scan_report.proofs.tally.tally.Goals as goal
 
 pub loop-at-init : goal.loop-at-init

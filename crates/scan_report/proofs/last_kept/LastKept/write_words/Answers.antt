@@ -14,8 +14,8 @@ loop-i-preserved c =
     let k = c.self.invariant in
     record {
       begun =
-          begun-more c.self.inside.scans c.loop-i.i c.loop-i.at c.loop-i.invariant.begun c.loop-i.invariant.place (omega (arith, k.few, k.size))
-          (omega (arith, k.few));
+          begun-more c.self.inside.scans c.loop-i.i c.loop-i.at c.loop-i.invariant.begun c.loop-i.invariant.place
+          (omega (arith, k.few, k.size)) (omega (arith, k.few));
       place = omega arith;
     }
 
@@ -35,8 +35,8 @@ loop-j-preserved c =
     let i = c.loop-j.invariant in
     let p = wordsFor c.args.self.now in
     let j = c.loop-j.j in
-    let b =
-    begun-zero p (j - c.loop-i.at) (j + 1 - c.loop-i.at) j i.begun (omega (arith, length-words c.args.self.now)) (omega arith) (omega arith) in
+    let n = length-words c.args.self.now in
+    let b = begun-zero p (j - c.loop-i.at) (j + 1 - c.loop-i.at) j i.begun (omega (arith, n)) (omega arith) (omega arith) in
     record { begun = b; place = i.place; few = i.few }
 
 pub returns : goal.returns
