@@ -149,9 +149,10 @@ reportRows =
 -- every row
 pub report-examples : map (λ (r : Row). r.given) reportRows ≡ map (λ (r : Row). r.stated) reportRows
 unfolding reportRows clockWord at finer wordsAt p9-east p9-west yearOne tagsBelow wordsBelow lent reports refuses placesOn places
-    countIn count placeCount valueFrom groups varuint scanFrom readVarUInt signedCount signed varint readVarInt intCount int readInt decimalBytes isLeap
-    monthLengthOf sumBelow wordOf fieldsOf capped countOf buildOf buildNumber buildPair checkOf utcFields offsetBytes varuints fieldCount
-    fractionBytes bodyFrom bodyOf header valueOf decodeOffset decodeFields decodeFraction filled precisionWith decodeBody pairFrom same
-    isBodyOf readBody readAfter readLength readValue contentsFrom contents inTurn readNumber scanBytes readScan contentsOf fileBytes placeOf
-    withLast kindBeside kindOf tallyFrom wordsFor wordsOver lentNumber fileNumber reportOf wordsAfter
+    countIn count placeCount valueFrom groups varuint scanFrom readVarUInt signedCount signed varint readVarInt intCount int readInt
+    decimalBytes isLeap monthLengthOf sumBelow wordOf fieldsOf capped countOf buildOf buildNumber buildPair checkOf utcFields
+    offsetBytes varuints fieldCount fractionBytes bodyFrom bodyOf header valueOf decodeOffset decodeFields decodeFraction filled
+    precisionWith decodeBody pairFrom same isBodyOf readBody readAfter readLength readValue contentsFrom contents inTurn readNumber
+    scanBytes readScan contentsOf fileBytes placeOf withLast kindBeside kindOf tallyFrom wordsFor wordsOver lentNumber fileNumber
+    reportOf wordsAfter
 report-examples = refl
