@@ -6,14 +6,12 @@ use native.Mathlib.Omega.{arith}
 use lib.ListN.{length, take, drop, length-append}
 use Rattle.ion.specs.Calls.Contents.{Contents, contentsWith}
 use Rattle.ion.proofs.Answers.{answered-zero, answered-refused}
-use Rattle.places.proofs.Slices.{rest-slice}
-use Rattle.contents.proofs.Readers.{ReadsAs}
-use Rattle.contents.proofs.Passing.{Passed, pass-start, pass-next, pass-within, pass-less, pass-stop, pass-end}
+use Rattle.contents.proofs.Passing.{Passed, pass-start, pass-end}
 use Rattle.scans.specs.Scan.{readScan}
 use Rattle.scans.specs.File.{scanReader, contentsOf, refusedFile, acceptedFile, checkFileOf}
 use Rattle.scans.specs.declared.Scan.{Scan}
 use Rattle.scans.specs.declared.ScanRead.{ScanRead}
-use Rattle.scan_laws.proofs.Scans.{scan-advances}
+use Rattle.scan_laws.proofs.Passing.{scan-stop, scan-within, scan-less, scan-next}
 
 -- of the bytes s the first `at` are n scans
 pub record Checked (s : List ℕ) (at n : ℕ) : Type 0 where
@@ -45,33 +43,21 @@ module _ {s : List ℕ} {at n : ℕ} (p : Checked s at n) where
 
   -- the reader's answer to what is left
   module _ {r : ScanRead} (read : r ≡ readScan (take (length s - at) (drop at s))) where
-    e : r ≡ readScan (drop at s)
-    e = read ∙ ap readScan (rest-slice s at)
-
     pub stop : at < length s → (r.number ≡ 0 → ⊥) → refusedFile r.number ≡ checkFileOf s
-    unfolding contentsOf
-    stop h z = sym (file-damaged s (pass-stop p.passed h (ap (λ (r : ScanRead). r.number) (sym e)) z) z)
+    stop h z = sym (file-damaged s (scan-stop p.passed read h z) z)
 
     module _ (z : r.number ≡ 0) where
-      reads : ReadsAs scanReader (drop at s) r.scan r.taken
-      reads =
-          record {
-            number = ap (λ (r : ScanRead). r.number) (sym e) ∙ z;
-            item = ap (λ (r : ScanRead). r.scan) (sym e);
-            taken = ap (λ (r : ScanRead). r.taken) (sym e);
-          }
-
       pub within : at + r.taken ≤ length s
-      within = pass-within p.passed scan-advances reads
+      within = scan-within p.passed read z
 
       pub less : length s - (at + r.taken) < length s - at
-      less = pass-less p.passed scan-advances reads
+      less = scan-less p.passed read z
 
       pub next : Checked s (at + r.taken) (n + 1)
       next =
           record {
             scans = p.scans ++ (r.scan ∷ []);
-            passed = pass-next p.passed scan-advances reads;
+            passed = scan-next p.passed read z;
             count = omega (arith, p.count, length-append p.scans (r.scan ∷ []));
             few = omega (arith, p.few, less, within);
           }

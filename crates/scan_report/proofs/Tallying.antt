@@ -2,15 +2,13 @@
 use Rattle.std.proofs.Common.{◌≡◌, refl, sym, ap, ◌∙◌, ℕ, ◌+◌, ◌-◌, ◌≤◌, ◌<◌}
 use Rattle.std.proofs.Common.{List, [], ◌∷◌, ◌++◌, length, take, drop, length-append, subst, arith}
 use borrow.Author.Tests.{lt-ltb, le-ltb}
-use Rattle.places.proofs.Slices.{rest-slice}
 use Rattle.places.proofs.Below.{Below, below-drop}
 use Rattle.ion.specs.Calls.Refusal.{tagsRefused}
 use Rattle.ion.specs.Calls.Accepted.{Accepted}
 use Rattle.ion.specs.Calls.Answered.{answered}
 use Rattle.ion.specs.Calls.Contents.{Contents, contentsWith, contents}
 use Rattle.ion.proofs.Answers.{answered-zero, answered-refused}
-use Rattle.contents.proofs.Readers.{ReadsAs}
-use Rattle.contents.proofs.Passing.{Passed, pass-start, pass-next, pass-within, pass-less, pass-stop, pass-end}
+use Rattle.contents.proofs.Passing.{Passed, pass-start, pass-end}
 use Rattle.scans.specs.Scan.{readScan}
 use Rattle.scans.specs.File.{scanReader, contentsOf}
 use Rattle.scans.specs.Tally.{Tally, noTally, kindOf, noCounts, countsOf, added, lastAfter, placeOf, tallied, tallyOf, tallyFrom}
@@ -23,7 +21,8 @@ use Rattle.scans.specs.declared.Kind.TheVariants.{Kept}
 use Rattle.scan_report.proofs.Posts.{after-few}
 use Rattle.scan_report.proofs.Places.{first-kept}
 use Rattle.scan_laws.proofs.Tallies.{place-within, Sums, sums, all-counted, last-new, never-fewer, tally-append, tally-next}
-use Rattle.scan_laws.proofs.Scans.{scan-advances, scan-inverse}
+use Rattle.scan_laws.proofs.Scans.{scan-inverse}
+use Rattle.scan_laws.proofs.Passing.{scan-stop, scan-reads, scan-within, scan-less, scan-next}
 
 -- ---- the number of a file, by what it holds
 
@@ -117,15 +116,9 @@ module _ {w g : ℕ} {s : List ℕ} {at : ℕ} {c : Counts} {l : List Scan} (p :
 
   -- what was read of what is left
   module _ {r : ScanRead} (read : r ≡ readScan (take (length s - at) (drop at s))) where
-    rest : r ≡ readScan (drop at s)
-    rest = read ∙ ap readScan (rest-slice s at)
-
     module _ (h : at < length s) (z : r.number ≡ 0 → ⊥) where
       damaged : fileNumber w g s ≡ r.number
-      unfolding contentsOf
-      damaged =
-          let e = pass-stop p.passed h (ap (λ (r : ScanRead). r.number) (sym rest)) z in
-          number-damage w g s e (ended e).1 z
+      damaged = let e = scan-stop p.passed read h z in number-damage w g s e (ended e).1 z
 
       pub stop : refusedReport r.number ≡ answered (fileNumber w g s) (reported (fileTally w g s).counts) refusedReport
       stop = refused-by damaged z
@@ -136,22 +129,15 @@ module _ {w g : ℕ} {s : List ℕ} {at : ℕ} {c : Counts} {l : List Scan} (p :
     -- ---- a scan more
 
     module _ (ok : r.number ≡ 0) where
-      reads : ReadsAs scanReader (drop at s) r.scan r.taken
-      reads =
-          record {
-            number = ap (λ (r : ScanRead). r.number) (sym rest) ∙ ok;
-            item = ap (λ (r : ScanRead). r.scan) (sym rest);
-            taken = ap (λ (r : ScanRead). r.taken) (sym rest);
-          }
-
       pub within : at + r.taken ≤ length s
-      within = pass-within p.passed scan-advances reads
+      within = scan-within p.passed read ok
 
       pub less : length s - (at + r.taken) < length s - at
-      less = pass-less p.passed scan-advances reads
+      less = scan-less p.passed read ok
 
       pub accepted : Below 256 s → Accepted r.scan.stamp
       accepted b =
+          let reads = scan-reads p.passed read ok in
           subst (λ (x : Scan). Accepted x.stamp) reads.item
           (scan-inverse.is (drop at s) (below-drop 256 at s b) reads.number).stored.stamp
 
@@ -169,7 +155,7 @@ module _ {w g : ℕ} {s : List ℕ} {at : ℕ} {c : Counts} {l : List Scan} (p :
           let k = kindOf w g l r.scan in
           record {
             scans = p.scans ++ (r.scan ∷ []);
-            passed = pass-next p.passed scan-advances reads;
+            passed = scan-next p.passed read ok;
             kept = more-kept;
             counts = ap (λ (d : Counts). added d (countsOf k)) p.counts ∙ ap (λ (t : Tally). t.counts) (sym more-is);
             few = omega (arith, p.few, less, within, length-append p.scans (r.scan ∷ []));
@@ -199,7 +185,7 @@ module _ {w g : ℕ} {s : List ℕ} {at : ℕ} {c : Counts} {l : List Scan} (p :
         too-many : fileNumber w g s ≡ tagsRefused
         unfolding contentsOf
         too-many =
-            let q = pass-next p.passed scan-advances reads in
+            let q = scan-next p.passed read ok in
             let ys = (contents scanReader (drop (at + r.taken) s)).items in
             let xs = p.scans ++ (r.scan ∷ []) in
             let all = ap (λ (d : Contents Scan). tallyOf w g d.items) q.rest ∙ tally-append w g noTally xs ys in
