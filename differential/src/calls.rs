@@ -196,6 +196,24 @@ pub struct FileRead {
     pub scans: usize,
 }
 
+/// What scans of a file are beside the last kept one of their tag.
+#[derive(Clone, Copy, PartialEq, Eq, Debug, Default)]
+pub struct Counts {
+    pub scans: u64,
+    pub doubles: u64,
+    pub kept: u64,
+    /// Of the kept ones.
+    pub gaps: u64,
+    pub backward: u64,
+}
+
+/// How many scans of each kind a file holds: 0 of all beside a refusal.
+#[derive(Clone, Copy, PartialEq, Eq, Debug, Default)]
+pub struct Report {
+    pub number: u32,
+    pub counts: Counts,
+}
+
 /// What is read from a timestamp: all 0 and no offset beside a refusal.
 #[derive(Clone, Copy, PartialEq, Eq, Debug, Default)]
 pub struct Fields {
@@ -257,6 +275,8 @@ pub trait Library {
     fn write_scan(&self, scan: Scan, buffer: &mut [u8], at: usize) -> Written;
     /// Reads a whole file of scans.
     fn check_file(&self, file: &[u8]) -> FileRead;
+    /// Counts doubles within `w` seconds and gaps of more than `g`, and leaves the tags' last kept scans in `words`.
+    fn report_file(&self, file: &[u8], w: u32, g: u32, words: &mut [u64]) -> Report;
 
     fn write_var_uint(&self, value: u64, buffer: &mut [u8]) -> Option<Written>;
     fn write_var_int(&self, value: i64, buffer: &mut [u8]) -> Option<Written>;

@@ -27,11 +27,13 @@ pub mod oracle;
 #[cfg(feature = "ours")]
 pub mod ours;
 mod plain_reader;
+mod plain_report;
 pub mod random;
 pub mod reader;
 pub mod readings;
 pub mod record;
 pub mod refusals;
+pub mod reports;
 pub mod scan_readings;
 pub mod scans;
 pub mod text_reader;

@@ -76,6 +76,15 @@ extern "C" {
         written: &mut usize,
     ) -> u32;
     fn file_check(file: *const u8, length: usize, scans: &mut usize) -> u32;
+    fn file_report(
+        file: *const u8,
+        length: usize,
+        w: u32,
+        g: u32,
+        words: *mut u64,
+        words_length: usize,
+        counts: &mut [u64; 5],
+    ) -> u32;
     fn write_var_uint(value: u64, buffer: *mut u8, length: usize, written: &mut usize) -> u32;
     fn write_var_int(value: i64, buffer: *mut u8, length: usize, written: &mut usize) -> u32;
     fn write_zero_padded(value: u64, width: usize, buffer: *mut u8, length: usize, written: &mut usize) -> u32;
@@ -305,6 +314,14 @@ impl Library for Ours {
         let mut scans = usize::MAX;
         let number = unsafe { file_check(file.as_ptr(), file.len(), &mut scans) };
         FileRead { number, scans }
+    }
+
+    fn report_file(&self, file: &[u8], w: u32, g: u32, words: &mut [u64]) -> Report {
+        let mut counts = [u64::MAX; 5];
+        let number =
+            unsafe { file_report(file.as_ptr(), file.len(), w, g, words.as_mut_ptr(), words.len(), &mut counts) };
+        let [scans, doubles, kept, gaps, backward] = counts;
+        Report { number, counts: Counts { scans, doubles, kept, gaps, backward } }
     }
 
     fn write_var_uint(&self, value: u64, buffer: &mut [u8]) -> Option<Written> {

@@ -18,6 +18,9 @@ pub const BODY: u32 = 15;
 pub const SHORT_BUFFER: u32 = 16;
 pub const FORM: u32 = 18;
 pub const NUMBER: u32 = 19;
+pub const WORDS: u32 = 20;
+pub const WINDOW: u32 = 21;
+pub const TAGS: u32 = 22;
 
 /// How each error text begins, and its number.
 const TEXTS: [(&str, u32); 11] = [

@@ -9,6 +9,7 @@ pub mod writing;
 use crate::calls::*;
 use crate::reader;
 use crate::refusals::SHORT_BUFFER;
+use crate::reports;
 use crate::scans;
 use crate::text_reader;
 use fields::{number_and_pair, of_build, of_word, packed};
@@ -196,6 +197,10 @@ impl Library for Model {
 
     fn check_file(&self, file: &[u8]) -> FileRead {
         scans::contents(file, |input| self.read_scan(input)).checked()
+    }
+
+    fn report_file(&self, file: &[u8], w: u32, g: u32, words: &mut [u64]) -> Report {
+        reports::answer(w, g, words, || scans::contents(file, |input| self.read_scan(input)))
     }
 
     fn write_var_uint(&self, value: u64, buffer: &mut [u8]) -> Option<Written> {

@@ -302,6 +302,10 @@ impl Library for Wrong {
         }
     }
 
+    fn report_file(&self, file: &[u8], w: u32, g: u32, words: &mut [u64]) -> Report {
+        Model.report_file(file, w, g, words)
+    }
+
     fn write_var_uint(&self, value: u64, buffer: &mut [u8]) -> Option<Written> {
         let written = Model.write_var_uint(value, buffer)?;
         if self.has(Fault::NoLastMark) && written.written > 0 {

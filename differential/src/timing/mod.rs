@@ -10,6 +10,7 @@
 //! times, so that they are in the cache. Writers write into one buffer of 64 bytes, which is never cleared: it holds
 //! what the call before wrote, and is in the cache.
 
+mod reports;
 pub(crate) mod scans;
 
 use crate::binary::timestamp::TimestampBinaryEncoder;
@@ -176,13 +177,13 @@ const HEADS: &str = " Rust and check  Rust bare   library   ratio";
 
 /// A call on the Rust's side, with the check and bare, and on the library's.
 struct Row<'a> {
-    name: &'static str,
+    name: &'a str,
     sides: [Option<Timed<'a>>; 3],
     best: [f64; 3],
 }
 
 impl<'a> Row<'a> {
-    fn new(name: &'static str, sides: [Option<Timed<'a>>; 3]) -> Row<'a> {
+    fn new(name: &'a str, sides: [Option<Timed<'a>>; 3]) -> Row<'a> {
         Row { name, sides, best: [f64::INFINITY; 3] }
     }
 
@@ -223,6 +224,7 @@ pub fn run<L: Library>(library: &L, seed: u64) {
         println!("{:<14} {}", row.name, row.told(PASSES * INPUTS));
     }
     scans::run(library, seed);
+    reports::run(library, seed);
 }
 
 fn rows<'a, L: Library>(library: &'a L, inputs: &'a Inputs) -> Vec<Row<'a>> {
