@@ -263,6 +263,24 @@ pub fn at_count(random: &mut Random, count: i128, offset: Option<i32>) -> Option
     })
 }
 
+/// The pair at a count and an offset, in a second with so many digits.
+pub fn second_at(count: i128, digits: u64, offset: Option<i32>) -> Option<Pair> {
+    let second = fields::SECOND as i128;
+    let seconds = count.div_euclid(second) as i64;
+    let time = calendar::at_minutes(seconds.div_euclid(60) + offset.unwrap_or(0) as i64)?;
+    (1..=9999).contains(&time.year).then(|| {
+        fields::packed(&fields::Fields {
+            time,
+            second: seconds.rem_euclid(60) as u32,
+            precision: 4,
+            digits,
+            attoseconds: count.rem_euclid(second) as u128,
+            offset,
+            in_utc: false,
+        })
+    })
+}
+
 /// The first and the last tag or guard of each length, from one byte to five.
 pub const SCAN_NUMBERS: [u32; 10] = [0, 127, 128, 16383, 16384, 2097151, 2097152, 268435455, 268435456, 4294967295];
 
@@ -276,6 +294,55 @@ fn scan_number(random: &mut Random) -> u32 {
 
 pub fn scan(random: &mut Random) -> Scan {
     Scan { tag: scan_number(random), guard: scan_number(random), pair: accepted(random) }
+}
+
+/// W and G for a report.
+pub fn window_and_gap(random: &mut Random) -> (u32, u32) {
+    let w = match random.below(20) {
+        0 => random.pick(&[86_401, 86_402, 1 << 31, u32::MAX]),
+        1..=8 => random.pick(&[0, 1, 2, 5, 60, 86_399, 86_400]),
+        _ => random.below(200) as u32,
+    };
+    let g = match random.below(4) {
+        0 => random.pick(&[0, 1, 86_400, u32::MAX - 1, u32::MAX]),
+        1 => random.any_size() as u32,
+        _ => random.below(400) as u32,
+    };
+    (w, g)
+}
+
+/// Up to 60 scans of one site: mostly of few tags, each some time from one before it, and mostly from one of its tag.
+pub fn site(random: &mut Random, w: u32, g: u32) -> Vec<Scan> {
+    let most = if random.one_in(10) { 60 } else { 4 };
+    let tags: Vec<u32> = (0..=random.below(most)).map(|_| scan_number(random)).collect();
+    let most = if random.one_in(4) { 60 } else { 8 };
+    let mut scans: Vec<Scan> = Vec::new();
+    for _ in 0..=random.below(most) {
+        let tag = random.pick(&tags);
+        let pair = match scans.iter().rev().find(|scan| scan.tag == tag || random.one_in(8)) {
+            Some(before) => later(random, before.pair, w, g),
+            None => accepted(random),
+        };
+        scans.push(Scan { tag, guard: scan_number(random), pair });
+    }
+    scans
+}
+
+/// A pair some time from an accepted one, mostly later: none, an edge of W or of G, or any time near these.
+fn later(random: &mut Random, pair: Pair, w: u32, g: u32) -> Pair {
+    let second = fields::SECOND as i128;
+    let step = match random.below(3) {
+        0 => random.pick(&[0, w, g]) as i128 * second + random.pick(&[-1, 0, 0, 1]),
+        1 => random.below(2 * w as u64 + 2) as i128 * second,
+        _ => random.below(w.min(200) as u64 + g.min(400) as u64 + 1) as i128 * second + random.below(1 << 59) as i128,
+    };
+    let step = if random.one_in(3) { -step } else { step };
+    let offset = match random.below(3) {
+        0 => None,
+        1 => random.pick(&[Some(0), Some(60), Some(-480)]),
+        _ => Some(random.between(-1439, 1439) as i32),
+    };
+    at_count(random, model::count(pair) + step, offset).unwrap_or(pair)
 }
 
 /// The text of a drawn pair, in any of its spellings.

@@ -8,24 +8,24 @@ use crate::refusals::{TAGS, WINDOW, WORDS};
 use crate::scans::Contents;
 
 /// How many words a report needs: three for each tag.
-pub const WORDS_LENT: usize = 3 * MOST_TAGS;
+pub const WORD_COUNT: usize = 3 * TAG_COUNT;
 /// How many tags a report has room for.
-pub const MOST_TAGS: usize = 256;
+pub const TAG_COUNT: usize = 256;
 /// The largest W.
-pub const MOST_SECONDS: u32 = 86_400;
+pub const MAX_WINDOW: u32 = 86_400;
 
 /// What scans count, and the last kept one of each tag in the order of the tags' first scans.
-#[derive(Clone, Default, PartialEq, Eq, Debug)]
-pub struct Tally {
-    pub counts: Counts,
-    pub last: Vec<Scan>,
+#[derive(Default)]
+struct Tally {
+    counts: Counts,
+    last: Vec<Scan>,
 }
 
 /// Answers, and leaves the last kept scans in the words. `contents` reads the file.
 pub fn answer(w: u32, g: u32, words: &mut [u64], contents: impl FnOnce() -> Contents) -> Report {
     match accepted(w, g, words.len(), contents) {
         Ok(tally) => {
-            words[..WORDS_LENT].fill(0);
+            words[..WORD_COUNT].fill(0);
             for (place, last) in words.chunks_exact_mut(3).zip(&tally.last) {
                 place.copy_from_slice(&[last.tag as u64, last.pair.word, last.pair.attoseconds]);
             }
@@ -36,15 +36,15 @@ pub fn answer(w: u32, g: u32, words: &mut [u64], contents: impl FnOnce() -> Cont
 }
 
 /// The tally of the file, or the number of its refusal.
-pub fn accepted(w: u32, g: u32, lent: usize, contents: impl FnOnce() -> Contents) -> Result<Tally, u32> {
-    if lent < WORDS_LENT {
+fn accepted(w: u32, g: u32, lent: usize, contents: impl FnOnce() -> Contents) -> Result<Tally, u32> {
+    if lent < WORD_COUNT {
         return Err(WORDS);
     }
-    if w > MOST_SECONDS {
+    if w > MAX_WINDOW {
         return Err(WINDOW);
     }
     let contents = contents();
-    let tally = tally(w, g, &contents.scans)?;
+    let tally = tally(&contents.scans, w, g)?;
     // Only scans before the damage were tallied.
     match contents.number {
         0 => Ok(tally),
@@ -52,13 +52,13 @@ pub fn accepted(w: u32, g: u32, lent: usize, contents: impl FnOnce() -> Contents
     }
 }
 
-fn tally(w: u32, g: u32, scans: &[Scan]) -> Result<Tally, u32> {
+fn tally(scans: &[Scan], w: u32, g: u32) -> Result<Tally, u32> {
     let (w, g) = (w as i128 * SECOND as i128, g as i128 * SECOND as i128);
     let Tally { mut counts, mut last } = Tally::default();
     for scan in scans {
         counts.scans += 1;
         let Some(kept) = last.iter_mut().find(|kept: &&mut Scan| kept.tag == scan.tag) else {
-            if last.len() == MOST_TAGS {
+            if last.len() == TAG_COUNT {
                 return Err(TAGS);
             }
             counts.kept += 1;

@@ -4,6 +4,7 @@
 mod changes;
 mod drawn;
 mod exhaustive;
+mod reports;
 mod scans;
 mod texts;
 
@@ -29,6 +30,8 @@ pub trait Cases {
     fn read_scan(&mut self, input: &[u8]);
     fn write_scan(&mut self, scan: Scan);
     fn file(&mut self, file: &[u8]);
+    /// A report over a file, with its W and G.
+    fn report(&mut self, file: &[u8], w: u32, g: u32);
     fn var_uint(&mut self, value: u64);
     fn var_int(&mut self, value: i64);
     fn zero_padded(&mut self, value: u64, width: usize);
@@ -56,6 +59,8 @@ pub fn sections<'a, C: Cases + 'a>(options: Options) -> Vec<Section<'a, C>> {
     // Last, so that what is recorded of the others does not change.
     if !options.drawn_only {
         sections.extend(scans::sections());
+        sections.extend(reports::sections());
     }
+    sections.extend(reports::drawn(options));
     sections
 }

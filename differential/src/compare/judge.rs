@@ -189,6 +189,10 @@ impl<L: Library> Cases for Run<'_, L> {
         self.judge_file(file);
     }
 
+    fn report(&mut self, file: &[u8], w: u32, g: u32) {
+        self.judge_report(file, w, g);
+    }
+
     fn var_uint(&mut self, value: u64) {
         self.case();
         let case = || value.to_string();

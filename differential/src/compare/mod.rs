@@ -2,6 +2,7 @@
 
 mod examples;
 mod judge;
+mod reports;
 mod scans;
 
 use crate::calls::Library;
@@ -22,12 +23,14 @@ enum Counted {
     ReadScan,
     WriteScan,
     File,
+    Report,
 }
 
-const COUNTED: [&str; 8] = ["build", "check", "writers", "read", "read text", "read scan", "write scan", "check file"];
+const COUNTED: [&str; 9] =
+    ["build", "check", "writers", "read", "read text", "read scan", "write scan", "check file", "report file"];
 
 /// Numbers go from 0 to this.
-const LAST_NUMBER: usize = 19;
+const LAST_NUMBER: usize = 22;
 
 /// Failures of one run that are printed whole.
 const SHOWN: u64 = 20;

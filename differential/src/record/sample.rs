@@ -141,6 +141,8 @@ impl Cases for Sample {
         }
     }
 
+    fn report(&mut self, _file: &[u8], _w: u32, _g: u32) {}
+
     fn var_uint(&mut self, value: u64) {
         let record = || Record::VarUInt(value, written(oracle::write_var_uint(value)).1);
         self.offer(Kind::VarUInt, 0, || vec![record()]);

@@ -3,6 +3,7 @@
 
 mod stand_ins;
 mod wrong;
+mod wrong_reports;
 
 use crate::calls::{Build, Fraction, Offset};
 use crate::cases::Options;

@@ -1,6 +1,6 @@
 //! Libraries with one wrong answer each, the scope's six among them: a run must notice every one.
 
-use super::SHORT;
+use super::{wrong_reports, SHORT};
 use crate::calls::*;
 use crate::compare;
 use crate::model::Model;
@@ -75,6 +75,8 @@ enum Fault {
     NoEmptyFile,
     /// One that stops at the damage without telling it.
     LeavesTheDamage,
+    /// A report, without a fault or with one.
+    Report(Option<wrong_reports::Fault>),
 }
 
 const ALL: [Fault; 40] = [
@@ -303,7 +305,10 @@ impl Library for Wrong {
     }
 
     fn report_file(&self, file: &[u8], w: u32, g: u32, words: &mut [u64]) -> Report {
-        Model.report_file(file, w, g, words)
+        match self.0 {
+            Fault::Report(fault) => wrong_reports::report(fault, file, w, g, words),
+            _ => Model.report_file(file, w, g, words),
+        }
     }
 
     fn write_var_uint(&self, value: u64, buffer: &mut [u8]) -> Option<Written> {
@@ -353,5 +358,13 @@ impl Library for Wrong {
 fn each_wrong_library_is_noticed() {
     for fault in ALL {
         assert!(!compare::run(&Wrong(fault), SHORT), "{fault:?} was not noticed");
+    }
+}
+
+#[test]
+fn each_wrong_report_is_noticed() {
+    assert!(compare::run(&Wrong(Fault::Report(None)), SHORT));
+    for fault in wrong_reports::ALL {
+        assert!(!compare::run(&Wrong(Fault::Report(Some(fault))), SHORT), "{fault:?} was not noticed");
     }
 }

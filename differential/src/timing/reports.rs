@@ -6,11 +6,12 @@
 
 use super::{timed_once, Row, HEADS};
 use crate::calls::{Counts, DateTime, Library, Pair, Report, Scan};
-use crate::model::{calendar, fields};
+use crate::generate;
+use crate::model::{calendar, fields::SECOND};
 use crate::oracle;
 use crate::plain_report::{self, PlainReport};
 use crate::random::Random;
-use crate::reports::WORDS_LENT;
+use crate::reports::WORD_COUNT;
 use std::collections::BTreeSet;
 use std::hint::black_box;
 
@@ -31,19 +32,12 @@ struct File {
 
 /// The second of the day as a clock of any offset has it, in a second with or without a fraction.
 fn pair(random: &mut Random, second: i64) -> Pair {
-    let offset = random.pick(&[None, Some(0), Some(60), Some(120), Some(-480)]);
-    let digits = random.pick(&[0, 0, 0, 3, 6, 9]);
     let day = calendar::minutes(DateTime { year: 2026, month: 5, day: 4, hour: 0, minute: 0 });
-    let time = calendar::at_minutes(day + second / 60 + offset.unwrap_or(0) as i64);
-    fields::packed(&fields::Fields {
-        time: time.expect("a time of the year 2026"),
-        second: (second % 60) as u32,
-        precision: 4,
-        digits: digits as u64,
-        attoseconds: random.below(10u64.pow(digits)) as u128 * 10u128.pow(18 - digits),
-        offset,
-        in_utc: false,
-    })
+    let digits = random.pick(&[0, 0, 0, 3, 6, 9]);
+    let attoseconds = random.below(10u64.pow(digits)) * 10u64.pow(18 - digits);
+    let count = (day * 60 + second) as i128 * SECOND as i128 + attoseconds as i128;
+    let offset = random.pick(&[None, Some(0), Some(60), Some(120), Some(-480)]);
+    generate::second_at(count, digits as u64, offset).expect("a time of the year 2026")
 }
 
 fn bytes(random: &mut Random, tags: &[u32], count: usize) -> Vec<u8> {
@@ -75,12 +69,12 @@ fn reported<L: Library>(library: &L, file: &[u8], words: &mut [u64]) -> Counts {
 
 /// The file with its counts, on which both sides must agree, as on the words.
 fn file<L: Library>(library: &L, name: String, scans: usize, bytes: Vec<u8>) -> File {
-    let mut words = [u64::MAX; WORDS_LENT];
+    let mut words = [u64::MAX; WORD_COUNT];
     let counts = reported(library, &bytes, &mut words);
     let plain = by_hand(library, &bytes);
     assert_eq!(counts, plain.counts);
     let mut plain_words = plain.words();
-    plain_words.resize(WORDS_LENT, 0);
+    plain_words.resize(WORD_COUNT, 0);
     assert_eq!(words[..], plain_words);
     let Counts { scans: of_all, doubles, gaps, backward, .. } = counts;
     assert_eq!(of_all, scans as u64);
@@ -117,7 +111,7 @@ pub fn run<L: Library>(library: &L, seed: u64) {
 
 fn row<'a, L: Library>(library: &'a L, file: &'a File) -> Row<'a> {
     let plain = || assert_eq!(black_box(by_hand(library, black_box(&file.bytes))).counts, file.counts);
-    let mut words = [0; WORDS_LENT];
+    let mut words = [0; WORD_COUNT];
     let report = move || {
         let counts = reported(library, black_box(&file.bytes), black_box(&mut words));
         assert_eq!(counts, file.counts);
