@@ -23,9 +23,9 @@ change() { # PLACE VALUE: a copy with another byte there
 od -An -v -tu1 "$file" | awk '
     { for (i = 1; i <= NF; i++) b[n++] = $i }
     END {
-        split("48 16 16 32 16 16 0 32 9 9 10 0 0 24 0", from)
+        split("48 16 16 32 16 16 0 32 9 9 10 0 0 24 0 10", from)
         # Where the answer stands before a run of bytes, its end; where a length stands in it, that place.
-        end[7] = 18; end[12] = 17; end[13] = 26; end[15] = 2
+        end[7] = 18; end[12] = 17; end[13] = 26; end[15] = 2; end[16] = 64
         length_at[5] = length_at[6] = 17; length_at[14] = 25
         for (at = 0; at < n; at += 2 + b[at + 1]) {
             kind = b[at]
@@ -71,7 +71,7 @@ head -c "$start" "$file" >"$work/damaged"
 at_first; judge 'a source alone'
 head -c "$((start + 9))" "$file" >"$work/damaged"
 at_first; judge 'a cut case'
-change "$second" 16 >"$work/damaged"
+change "$second" 17 >"$work/damaged"
 at_second; judge 'an unknown kind'
 change $((second + 1)) 64 >"$work/damaged"
 at_second; judge 'a wrong length'

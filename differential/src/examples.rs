@@ -14,6 +14,8 @@ pub enum Source {
     Texts,
     /// docs/SCOPE.md: the sentences on scans and their files.
     Scans,
+    /// docs/SCOPE.md: the sentences on reports over files.
+    Reports,
     /// The Ion 1.0 specification, section "Timestamp": texts, and which of them are one instant.
     IonText,
     /// The Ion 1.0 binary encoding, section "6: Timestamp": values of 2000-01-01T00:00:00, with and without a fraction.
@@ -24,11 +26,12 @@ pub enum Source {
 }
 
 impl Source {
-    pub const ALL: [Source; 7] = [
+    pub const ALL: [Source; 8] = [
         Source::Numbered,
         Source::Others,
         Source::Texts,
         Source::Scans,
+        Source::Reports,
         Source::IonText,
         Source::IonBinary,
         Source::ByHand,
@@ -40,6 +43,7 @@ impl Source {
             Source::Others => "docs/SCOPE.md, other examples",
             Source::Texts => "docs/SCOPE.md, reading a text",
             Source::Scans => "docs/SCOPE.md, files of scans",
+            Source::Reports => "docs/SCOPE.md, reports over files",
             Source::IonText => "Ion 1.0 specification, Timestamp",
             Source::IonBinary => "Ion 1.0 binary encoding, 6: Timestamp",
             Source::ByHand => "worked by hand from docs/SCOPE.md",

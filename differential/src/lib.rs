@@ -33,6 +33,7 @@ pub mod reader;
 pub mod readings;
 pub mod record;
 pub mod refusals;
+pub mod report_readings;
 pub mod reports;
 pub mod scan_readings;
 pub mod scans;

@@ -6,6 +6,8 @@ use crate::cases::Cases;
 use crate::examples::{Example, Order, EXAMPLES, ORDERS, UNREAD};
 use crate::oracle::{self, Answer};
 use crate::readings::{Reading, READINGS};
+use crate::report_readings::{ReportReading, REPORTS};
+use crate::reports::WORD_COUNT;
 use crate::scan_readings::{FILES, SCANS};
 
 pub fn all<L: Library>(run: &mut Run<'_, L>) {
@@ -25,6 +27,7 @@ pub fn all<L: Library>(run: &mut Run<'_, L>) {
         reads(run, reading);
     }
     scans(run);
+    REPORTS.iter().for_each(|reading| reports(run, reading));
     first_pair(run);
 }
 
@@ -70,6 +73,23 @@ fn scans<L: Library>(run: &mut Run<'_, L>) {
         let answer = run.library.check_file(reading.bytes);
         run.judge("check_file", || format!("{:02x?}", reading.bytes), Ok(reading.owed), answer);
     }
+}
+
+/// The answer, and what stands in words that were all 7.
+fn reports<L: Library>(run: &mut Run<'_, L>, reading: &ReportReading) {
+    let file = reading.file();
+    let (w, g, lent) = (reading.w, reading.g, reading.lent);
+    run.report(&file, w, g);
+    let mut expected = vec![7; lent];
+    if reading.report().number == 0 {
+        let words = reading.words(|build| run.library.build(build).pair);
+        expected[..WORD_COUNT].fill(0);
+        expected[..words.len()].copy_from_slice(&words);
+    }
+    let mut words = vec![7; lent];
+    let answer = run.library.report_file(&file, w, g, &mut words);
+    let case = || format!("W {w}, G {g}, {lent} words, {file:02x?}");
+    run.judge("report_file", case, Ok((reading.report(), expected)), (answer, words));
 }
 
 fn answer(bytes: &[u8]) -> Answer<Vec<u8>> {

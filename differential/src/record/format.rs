@@ -25,11 +25,15 @@
 //! | 0D | scan read | bytes, last | number n1, scan, taken n1 |
 //! | 0E | scan written | scan | number n1, bytes |
 //! | 0F | file checked | bytes, last | number n1, how many scans n1 |
-//! | FF | end | | how many records of the kinds 01 to 0F there were n4 |
+//! | 10 | file reported | W n4, G n4, lent words n2, bytes, last | number n1, five counts n1 each, six words n8 each |
+//! | FF | end | | how many records of the kinds 01 to 10 there were n4 |
 //!
 //! A field set is its stage n1, how month, day and hour are given n1, the year, month, day, hour, minute and second n4
 //! each, the fraction's kind n1 and two numbers n8 n8, the offset's kind n1 and its minutes n4. codes.rs has the codes.
 //! Fields finer than the stage are there too, and are not given to the builder.
+//!
+//! The words of kind 10 are those of the first two tags, 0 where there are fewer or where it is refused. The words that
+//! are lent are all 7 before.
 
 use crate::calls::*;
 use crate::codes;
@@ -52,6 +56,7 @@ pub enum Record {
     ReadScan(Vec<u8>, ScanRead),
     WriteScan(Scan, u32, Vec<u8>),
     File(Vec<u8>, FileRead),
+    Report(Reported),
     End(u32),
 }
 
@@ -63,6 +68,17 @@ pub struct Orders {
     pub eq: bool,
     pub ion_cmp: i32,
     pub ion_eq: bool,
+}
+
+/// A report over a file: what was asked and answered, and the words of the first two tags.
+#[derive(Clone, PartialEq, Eq, Debug)]
+pub struct Reported {
+    pub file: Vec<u8>,
+    pub w: u32,
+    pub g: u32,
+    pub lent: u16,
+    pub answer: Report,
+    pub words: [u64; 6],
 }
 
 impl Record {
@@ -80,6 +96,7 @@ impl Record {
                 | Record::ReadScan(..)
                 | Record::WriteScan(..)
                 | Record::File(..)
+                | Record::Report(_)
         )
     }
 
@@ -101,6 +118,7 @@ impl Record {
             Record::ReadScan(..) => 0x0D,
             Record::WriteScan(..) => 0x0E,
             Record::File(..) => 0x0F,
+            Record::Report(_) => 0x10,
             Record::End(_) => 0xFF,
         }
     }
@@ -141,6 +159,11 @@ impl Record {
             Record::WriteScan(scan, number, bytes) => rest.scan(*scan).byte(*number as u8).bytes(bytes),
             Record::File(file, answer) => {
                 rest.byte(answer.number as u8).byte(answer.scans as u8).bytes(file);
+            }
+            Record::Report(reported) => {
+                rest.half(reported.w).half(reported.g).quarter(reported.lent).report(&reported.answer);
+                reported.words.iter().for_each(|word| _ = rest.word(*word));
+                rest.bytes(&reported.file);
             }
             Record::End(count) => rest.0.extend(count.to_be_bytes()),
         }
@@ -186,6 +209,11 @@ impl Record {
                 let answer = FileRead { number: fields.byte()? as u32, scans: fields.byte()? as usize };
                 Record::File(fields.bytes()?, answer)
             }
+            0x10 => {
+                let (w, g, lent) = (fields.half()?, fields.half()?, fields.quarter()?);
+                let (answer, words) = (fields.report()?, fields.words()?);
+                Record::Report(Reported { file: fields.bytes()?, w, g, lent, answer, words })
+            }
             0xFF => Record::End(fields.half()?),
             _ => return None,
         };
@@ -199,6 +227,11 @@ struct Rest(Vec<u8>);
 impl Rest {
     fn byte(&mut self, value: u8) -> &mut Self {
         self.0.push(value);
+        self
+    }
+
+    fn quarter(&mut self, value: u16) -> &mut Self {
+        self.0.extend(value.to_be_bytes());
         self
     }
 
@@ -222,6 +255,14 @@ impl Rest {
 
     fn built(&mut self, built: &Built) {
         self.byte(built.number as u8).pair(built.pair);
+    }
+
+    fn report(&mut self, report: &Report) {
+        let Counts { scans, doubles, kept, gaps, backward } = report.counts;
+        self.byte(report.number as u8);
+        for count in [scans, doubles, kept, gaps, backward] {
+            self.byte(u8::try_from(count).expect("a count is at most 255"));
+        }
     }
 
     fn bytes(&mut self, bytes: &[u8]) {
@@ -259,6 +300,10 @@ impl Fields<'_> {
         self.byte().map(|byte| byte as i8 as i32)
     }
 
+    fn quarter(&mut self) -> Option<u16> {
+        self.take().map(u16::from_be_bytes)
+    }
+
     fn half(&mut self) -> Option<u32> {
         self.take().map(u32::from_be_bytes)
     }
@@ -277,6 +322,20 @@ impl Fields<'_> {
 
     fn built(&mut self) -> Option<Built> {
         Some(Built { number: self.byte()? as u32, pair: self.pair()? })
+    }
+
+    fn report(&mut self) -> Option<Report> {
+        let [number, counts @ ..] = self.take::<6>()?;
+        let [scans, doubles, kept, gaps, backward] = counts.map(u64::from);
+        Some(Report { number: number as u32, counts: Counts { scans, doubles, kept, gaps, backward } })
+    }
+
+    fn words(&mut self) -> Option<[u64; 6]> {
+        let mut words = [0; 6];
+        for word in &mut words {
+            *word = self.word()?;
+        }
+        Some(words)
     }
 
     fn bytes(&mut self) -> Option<Vec<u8>> {

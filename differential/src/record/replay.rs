@@ -1,8 +1,9 @@
 //! Replays recorded answers.
 
-use super::format::{Orders, Record};
+use super::format::{Orders, Record, Reported};
 use crate::calls::*;
 use crate::refusals::SHORT_BUFFER;
+use crate::reports::WORD_COUNT;
 
 /// How many records of a source agree.
 #[derive(Clone, PartialEq, Eq, Debug)]
@@ -58,6 +59,7 @@ fn agrees<L: Library>(library: &L, record: &Record) -> bool {
             writes(*number, bytes, |buffer| Some(library.write_scan(*scan, buffer, 0)))
         }
         Record::File(file, answer) => library.check_file(file) == *answer,
+        Record::Report(reported) => reports(library, reported),
         Record::Source(_) | Record::End(_) => false,
     }
 }
@@ -74,6 +76,24 @@ fn orders<L: Library>(library: &L, first: Pair, second: Pair) -> Option<Orders> 
         ion_cmp: ion_cmp.order,
         ion_eq: ion_eq.equal,
     })
+}
+
+/// Whether a report answers so, and leaves in words that were all 7 the six, 0 up to the 768th, and 7; all 7 beside a
+/// refusal.
+fn reports<L: Library>(library: &L, reported: &Reported) -> bool {
+    let mut words = vec![7; reported.lent as usize];
+    let mut left = words.clone();
+    if reported.answer.number == 0 {
+        let Some(used) = left.get_mut(..WORD_COUNT) else {
+            return false;
+        };
+        used.fill(0);
+        used[..6].copy_from_slice(&reported.words);
+    } else if reported.words != [0; 6] {
+        return false;
+    }
+    let answer = library.report_file(&reported.file, reported.w, reported.g, &mut words);
+    answer == reported.answer && words == left
 }
 
 /// Whether a writer answers so in a long buffer, and an accepted one also in a buffer of as many bytes as it writes, but

@@ -1,6 +1,6 @@
 //! Which cases are recorded, and their answers.
 
-use super::format::{Orders, Record};
+use super::format::{Orders, Record, Reported};
 use crate::calls::*;
 use crate::cases::Cases;
 use crate::differences;
@@ -9,11 +9,16 @@ use crate::expected::{self, Expected};
 use crate::oracle::{self, Answer};
 use crate::random::Random;
 use crate::readings::READINGS;
+use crate::report_readings::{ReportReading, REPORTS};
+use crate::reports;
 use crate::scan_readings::{FILES, SCANS};
 use std::collections::BTreeMap;
 
 /// The longest run of bytes that is recorded.
 const LONGEST: usize = 128;
+
+/// How many words are lent to a report.
+const LENT: [u16; 8] = [0, 767, 768, 768, 768, 769, 800, 1_000];
 
 /// Of accepted cases this many times as many are kept as of those that are refused with one number.
 const ACCEPTED: usize = 5;
@@ -42,6 +47,7 @@ enum Kind {
     ReadScan,
     WriteScan,
     File,
+    Report,
 }
 
 /// How many cases there were, and the records of those that are kept, with the cases' places.
@@ -73,8 +79,12 @@ impl Sample {
         let kept = self.kept.entry((kind, number)).or_default();
         self.place += 1;
         kept.seen += 1;
-        // Of scans, half as many: what they are made of is recorded alone too.
-        let of_each = if kind >= Kind::ReadScan { self.of_each.div_ceil(2) } else { self.of_each };
+        // Of scans, half as many, and of reports a quarter: what they are made of is recorded alone too.
+        let of_each = match kind {
+            Kind::Report => self.of_each.div_ceil(4),
+            Kind::ReadScan | Kind::WriteScan | Kind::File => self.of_each.div_ceil(2),
+            _ => self.of_each,
+        };
         let enough = if number == 0 { ACCEPTED * of_each } else { of_each };
         if kept.cases.len() < enough {
             kept.cases.push((self.place, records()));
@@ -141,7 +151,21 @@ impl Cases for Sample {
         }
     }
 
-    fn report(&mut self, _file: &[u8], _w: u32, _g: u32) {}
+    /// Reports of up to two tags, with enough lent words or too few, and refused ones.
+    fn report(&mut self, file: &[u8], w: u32, g: u32) {
+        if file.len() > LONGEST {
+            return;
+        }
+        let lent = self.random.pick(&LENT);
+        let mut words = vec![0; lent as usize];
+        let answer = reports::answer(w, g, &mut words, || expected::contents(file));
+        if words.iter().skip(6).any(|word| *word != 0) {
+            return;
+        }
+        let words = std::array::from_fn(|place| words.get(place).copied().unwrap_or(0));
+        let reported = || Reported { file: file.to_vec(), w, g, lent, answer, words };
+        self.offer(Kind::Report, answer.number, || vec![Record::Report(reported())]);
+    }
 
     fn var_uint(&mut self, value: u64) {
         let record = || Record::VarUInt(value, written(oracle::write_var_uint(value)).1);
@@ -232,8 +256,10 @@ pub fn examples(source: Source) -> Vec<Record> {
     for reading in READINGS.iter().filter(|reading| reading.source == source) {
         records.push(Record::ReadText(reading.text.as_bytes().to_vec(), reading.answer(pair_of)));
     }
-    if source == Source::Scans {
-        records.extend(scans());
+    match source {
+        Source::Scans => records.extend(scans()),
+        Source::Reports => records.extend(REPORTS.iter().map(reported)),
+        _ => {}
     }
     records
 }
@@ -249,6 +275,19 @@ fn scans() -> Vec<Record> {
     }
     records.extend(FILES.iter().map(|reading| Record::File(reading.bytes.to_vec(), reading.owed)));
     records
+}
+
+fn reported(reading: &ReportReading) -> Record {
+    let mut words = reading.words(pair_of);
+    words.resize(6, 0);
+    Record::Report(Reported {
+        file: reading.file(),
+        w: reading.w,
+        g: reading.g,
+        lent: reading.lent as u16,
+        answer: reading.report(),
+        words: words.try_into().expect("a reading has at most two tags"),
+    })
 }
 
 /// The pair of a field set, or (0, 0) where it is refused.

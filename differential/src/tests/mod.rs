@@ -99,7 +99,7 @@ fn recorded_answers_come_back_and_are_replayed() {
     assert!(rest.is_empty());
 
     let tallies = replay::replay(&Model, &bytes).expect("a whole file");
-    assert_eq!(tallies.len(), 9);
+    assert_eq!(tallies.len(), 10);
     assert!(tallies.iter().all(|tally| tally.records > 0 && tally.agreed == tally.records));
 
     assert!(replay::replay(&Model, &bytes[..bytes.len() - 1]).is_err());
