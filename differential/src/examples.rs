@@ -14,7 +14,7 @@ pub enum Source {
     Texts,
     /// docs/SCOPE.md: the sentences on scans and their files.
     Scans,
-    /// docs/SCOPE.md: the sentences on reports over files.
+    /// docs/SCOPE.md: the sentences on doubles and gaps.
     Reports,
     /// The Ion 1.0 specification, section "Timestamp": texts, and which of them are one instant.
     IonText,
@@ -43,7 +43,7 @@ impl Source {
             Source::Others => "docs/SCOPE.md, other examples",
             Source::Texts => "docs/SCOPE.md, reading a text",
             Source::Scans => "docs/SCOPE.md, files of scans",
-            Source::Reports => "docs/SCOPE.md, reports over files",
+            Source::Reports => "docs/SCOPE.md, doubles and gaps",
             Source::IonText => "Ion 1.0 specification, Timestamp",
             Source::IonBinary => "Ion 1.0 binary encoding, 6: Timestamp",
             Source::ByHand => "worked by hand from docs/SCOPE.md",

@@ -179,7 +179,7 @@ pub const REPORTS: [ReportReading; 66] = [
     report(&[(2, &START), (0, &START), (0, &AT_10)], [3, 0, 3, 0, 0], &[(2, &START), (0, &AT_10)]),
     // More words may be lent; fewer are refused first, then W, both before reading.
     report(&[(1, &START)], [1, 0, 1, 0, 0], &[(1, &START)]).lent(769),
-    report(&[(1, &START), (2, &YEAR)], [2, 0, 2, 0, 0], &[(1, &START), (2, &YEAR)]).lent(65_535),
+    report(&[(1, &START), (2, &YEAR)], [2, 0, 2, 0, 0], &[(1, &START), (2, &YEAR)]).lent(1_024),
     refused(20, &[(1, &START)], &[]).lent(767),
     refused(20, &[], &[]).lent(0),
     refused(20, &[(1, &START)], &[]).lent(767).asked(86_401, 10),
