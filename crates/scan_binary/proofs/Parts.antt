@@ -17,8 +17,8 @@ parts-size tag guard v =
     omega (arith, length-varuint tag, length-varuint guard, length-append t (g ++ v), length-append g v)
 
 -- both numbers have 20 bytes at most
-pub numbers-few : (tag guard : ℕ) → tag < 2 ^ 32 → guard < 2 ^ 32 → groupCount tag + groupCount guard ≤ 20
-numbers-few tag guard h k = omega (arith, groups-u64 tag (omega arith), groups-u64 guard (omega arith))
+pub numbers-few : {tag guard j k : ℕ} → tag < 2 ^ 32 → guard < 2 ^ 32 → j ≡ groupCount tag → k ≡ groupCount guard → j + k ≤ 20
+numbers-few {tag} {guard} l m p q = omega (arith, groups-u64 tag (omega arith), groups-u64 guard (omega arith), p, q)
 
 -- j and k are the sizes of the numbers, and w is what was answered to the room for both and the value
 module _ (d : List ℕ) (at tag guard : ℕ) (v : List ℕ) {j k : ℕ} {w : Written} (p : j ≡ groupCount tag) (q : k ≡ groupCount guard)

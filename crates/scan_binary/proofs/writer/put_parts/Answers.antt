@@ -1,29 +1,15 @@
 -- `writer::put_parts` meets its contract.
-use Rattle.std.proofs.Common.{◌≤◌, ◌+◌, rules, arith}
+use Rattle.std.proofs.Common.{rules}
 use Rattle.scan_binary.proofs.Parts.{numbers-few, parts-refused, tag-room, guard-room, value-room, parts-put}
 use Rattle.scan_binary.proofs.writer.put_parts.Goals as goal
 
 pub overflow_add-numbers : goal.overflow_add-numbers
 overflow_add-numbers c =
-    let h : c.encoded_size_of.result + c.encoded_size_of-2.result ≤ 20 =
-    omega (
-      arith,
-      numbers-few c.args.tag c.args.guard c.ranges.tag.fits c.ranges.guard.fits,
-      c.encoded_size_of.ensures,
-      c.encoded_size_of-2.ensures,
-    ) in
-    search (rules, h)
+    let h = numbers-few c.ranges.tag.fits c.ranges.guard.fits c.encoded_size_of.ensures c.encoded_size_of-2.ensures in search (rules, h)
 
 pub overflow_add-numbers-2 : goal.overflow_add-numbers-2
 overflow_add-numbers-2 c =
-    let h : c.encoded_size_of.result + c.encoded_size_of-2.result ≤ 20 =
-    omega (
-      arith,
-      numbers-few c.args.tag c.args.guard c.ranges.tag.fits c.ranges.guard.fits,
-      c.encoded_size_of.ensures,
-      c.encoded_size_of-2.ensures,
-    ) in
-    search (rules, h)
+    let h = numbers-few c.ranges.tag.fits c.ranges.guard.fits c.encoded_size_of.ensures c.encoded_size_of-2.ensures in search (rules, h)
 
 pub returns-then-answer-ne0 : goal.returns-then-answer-ne0
 returns-then-answer-ne0 c =
