@@ -10,111 +10,112 @@ use native.Mathlib.Omega.{arith}
 use borrow.Author.Tests.{le-leb, lt-leb, ltb-true, ltb-false, leb-true, leb-false}
 use lib.Dec.{leb, ltb, lit<}
 use lib.ListN.{length, take, drop}
-use Rattle.places.specs.Places.{plain, placesOn, valueFrom}
-use Rattle.places.proofs.Laws.{places-append, places-add, value-on}
-use Rattle.places.proofs.Below.{Below, below-none, below-cons}
-use Rattle.places.proofs.Values.{place-more}
-use Rattle.ion.specs.Numbers.VarUInt.{groups, upTo, scanFrom}
+use Rattle.places.specs.Places.{plain, places_on, value_from}
+use Rattle.places.proofs.Laws.{places_append, places_add, value_on}
+use Rattle.places.proofs.Below.{Below, below_none, below_cons}
+use Rattle.places.proofs.Values.{place_more}
+use Rattle.ion.specs.Numbers.VarUInt.{groups, up_to, scan_from}
 use Rattle.ion.specs.declared.VarUIntRead.TheVariants.{Value, Cut, Bad}
 
 -- ---- the groups are the places of base 128, of which the last is marked
 
-pub groups-append : (n m : ℕ) (r : List ℕ) → groups (suc n) m ++ r ≡ placesOn 128 plain n (m / 128) ((128 + m % 128) ∷ r)
+pub groups_append : (n m : ℕ) (r : List ℕ) → groups (suc n) m ++ r ≡ places_on 128 plain n (m / 128) ((128 + m % 128) ∷ r)
 unfolding groups
-groups-append n m r = places-append 128 plain n (m / 128) ((128 + m % 128) ∷ []) r
+groups_append n m r = places_append 128 plain n (m / 128) ((128 + m % 128) ∷ []) r
 
-pub groups-one : (m : ℕ) → groups 1 m ≡ (128 + m % 128) ∷ []
-unfolding groups placesOn
-groups-one m = refl
+pub groups_one : (m : ℕ) → groups 1 m ≡ (128 + m % 128) ∷ []
+unfolding groups places_on
+groups_one m = refl
 
 -- one group more is one in front
-pub groups-more : (n m : ℕ) → groups (suc (suc n)) m ≡ (m / 128 ^ suc n % 128) ∷ groups (suc n) m
-unfolding groups placesOn
-groups-more n m =
+pub groups_more : (n m : ℕ) → groups (suc (suc n)) m ≡ (m / 128 ^ suc n % 128) ∷ groups (suc n) m
+unfolding groups places_on
+groups_more n m =
     let t = (128 + m % 128) ∷ [] in
     let e : 1 + n ≡ suc n = omega arith in
     let f : m / 128 / 128 ^ n ≡ m / 128 ^ suc n = div-div-eq-div-mul m 128 (128 ^ n) ∙ ap (λ (x : ℕ). m / x) (sym (pow-succ' 128 n)) in
-    ap (λ (k : ℕ). placesOn 128 plain k (m / 128) t) (sym e)
-    ∙ places-add 128 (lit< tt) plain 1 n (m / 128) t
-    ∙ ap (λ (x : ℕ). x % 128 ∷ placesOn 128 plain n (m / 128) t) f
+    ap (λ (k : ℕ). places_on 128 plain k (m / 128) t) (sym e)
+    ∙ places_add 128 (lit< tt) plain 1 n (m / 128) t
+    ∙ ap (λ (x : ℕ). x % 128 ∷ places_on 128 plain n (m / 128) t) f
 
-pub length-groups : (n m : ℕ) → length (groups n m) ≡ n
+pub length_groups : (n m : ℕ) → length (groups n m) ≡ n
 unfolding groups
-length-groups zero m = refl
-length-groups (suc zero) m = ap length (groups-one m)
-length-groups (suc (suc n)) m = ap length (groups-more n m) ∙ ap suc (length-groups (suc n) m)
+length_groups zero m = refl
+length_groups (suc zero) m = ap length (groups_one m)
+length_groups (suc (suc n)) m = ap length (groups_more n m) ∙ ap suc (length_groups (suc n) m)
 
 -- ---- the group law: the n groups of a number below 128 ^ n make it up again
 
 abbrev pub group : ℕ → ℕ
 group c = c % 128
 
-pub value-groups : (n m : ℕ) → m < 128 ^ n → valueFrom 128 group 0 (groups n m) ≡ m
-unfolding groups valueFrom
-value-groups zero m h = omega (arith, pow-zero 128)
-value-groups (suc n) m h =
-    value-on 128 (lit< tt) plain group (λ d l. mod-eq_of_lt l) n (m / 128) ((128 + m % 128) ∷ []) (omega (arith, pow-suc 128 n))
+pub value_groups : (n m : ℕ) → m < 128 ^ n → value_from 128 group 0 (groups n m) ≡ m
+unfolding groups value_from
+value_groups zero m h = omega (arith, pow-zero 128)
+value_groups (suc n) m h =
+    value_on 128 (lit< tt) plain group (λ d l. mod-eq_of_lt l) n (m / 128) ((128 + m % 128) ∷ []) (omega (arith, pow-suc 128 n))
     ∙ omega arith
 
 -- ---- a scan, byte by byte; w is the value with the byte's group
 
-pub scan-more : (l n v k b w : ℕ) (r : List ℕ) → b < 128 → v * 128 + b % 128 ≡ w → scanFrom l (suc n) v k (b ∷ r) ≡ scanFrom l n w (k + 1) r
-unfolding scanFrom
-scan-more l n v k b w r h e = rw (e, lt-leb 128 b h)
+pub scan_more : (l n v k b w : ℕ) (r : List ℕ) → b < 128 → v * 128 + b % 128 ≡ w
+    → scan_from l (suc n) v k (b ∷ r) ≡ scan_from l n w (k + 1) r
+unfolding scan_from
+scan_more l n v k b w r h e = rw (e, lt-leb 128 b h)
 
-pub scan-last : (l n v k b w : ℕ) (r : List ℕ) → 128 ≤ b → v * 128 + b % 128 ≡ w → scanFrom l (suc n) v k (b ∷ r) ≡ upTo l w (k + 1)
-unfolding scanFrom
-scan-last l n v k b w r h e = rw (e, le-leb 128 b h)
+pub scan_last : (l n v k b w : ℕ) (r : List ℕ) → 128 ≤ b → v * 128 + b % 128 ≡ w → scan_from l (suc n) v k (b ∷ r) ≡ up_to l w (k + 1)
+unfolding scan_from
+scan_last l n v k b w r h e = rw (e, le-leb 128 b h)
 
-pub scan-full : (l n v k b : ℕ) (r : List ℕ) → n ≡ 0 → b < 128 → scanFrom l (suc n) v k (b ∷ r) ≡ Bad
-unfolding scanFrom
-scan-full l n v k b r e h = rw (e, lt-leb 128 b h)
+pub scan_full : (l n v k b : ℕ) (r : List ℕ) → n ≡ 0 → b < 128 → scan_from l (suc n) v k (b ∷ r) ≡ Bad
+unfolding scan_from
+scan_full l n v k b r e h = rw (e, lt-leb 128 b h)
 
 -- the input ends before a marked byte, and before the last that may be read
-pub scan-cut : (l n v k : ℕ) (s : List ℕ) → length s < n → Below 128 s → scanFrom l n v k s ≡ Cut
-unfolding scanFrom
-scan-cut l zero v k s h b = absurd (omega arith)
-scan-cut l (suc n) v k [] h b = refl
-scan-cut l (suc n) v k (c ∷ r) h b = rw (lt-leb 128 c (b 0)) (scan-cut l n (v * 128 + c % 128) (k + 1) r (omega arith) (λ i. b (suc i)))
+pub scan_cut : (l n v k : ℕ) (s : List ℕ) → length s < n → Below 128 s → scan_from l n v k s ≡ Cut
+unfolding scan_from
+scan_cut l zero v k s h b = absurd (omega arith)
+scan_cut l (suc n) v k [] h b = refl
+scan_cut l (suc n) v k (c ∷ r) h b = rw (lt-leb 128 c (b 0)) (scan_cut l n (v * 128 + c % 128) (k + 1) r (omega arith) (λ i. b (suc i)))
 
-pub cut-scan : (l n v k : ℕ) (s : List ℕ) → scanFrom l n v k s ≡ Cut → (length s < n) × Below 128 s
-unfolding scanFrom
-cut-scan l zero v k s e = absurd (let z : ◌≡◌ {A = ℕ} 0 1 = cc in omega arith)
-cut-scan l (suc n) v k [] e = (omega arith, below-none 128 (lit< tt))
-cut-scan l (suc n) v k (c ∷ r) e = go (cut-scan l n w (k + 1) r) (leb 128 c) (ltb l w) refl e
+pub cut_scan : (l n v k : ℕ) (s : List ℕ) → scan_from l n v k s ≡ Cut → (length s < n) × Below 128 s
+unfolding scan_from
+cut_scan l zero v k s e = absurd (let z : ◌≡◌ {A = ℕ} 0 1 = cc in omega arith)
+cut_scan l (suc n) v k [] e = (omega arith, below_none 128 (lit< tt))
+cut_scan l (suc n) v k (c ∷ r) e = go (cut_scan l n w (k + 1) r) (leb 128 c) (ltb l w) refl e
   where
     w : ℕ
     w = v * 128 + c % 128
 
-    go : (scanFrom l n w (k + 1) r ≡ Cut → (length r < n) × Below 128 r) → (t u : Bool) → leb 128 c ≡ t
-        → cond t (cond u Bad (Value w (k + 1))) (scanFrom l n w (k + 1) r) ≡ Cut → (length (c ∷ r) < suc n) × Below 128 (c ∷ r)
+    go : (scan_from l n w (k + 1) r ≡ Cut → (length r < n) × Below 128 r) → (t u : Bool) → leb 128 c ≡ t
+        → cond t (cond u Bad (Value w (k + 1))) (scan_from l n w (k + 1) r) ≡ Cut → (length (c ∷ r) < suc n) × Below 128 (c ∷ r)
     go ih true true f e = absurd (let z : ◌≡◌ {A = ℕ} 0 1 = cc in omega arith)
     go ih true false f e = absurd (let z : ◌≡◌ {A = ℕ} 0 1 = cc in omega arith)
-    go ih false u f e = let p = ih e in (omega (arith, p.0), below-cons 128 c r (leb-false 128 c f) p.1)
+    go ih false u f e = let p = ih e in (omega (arith, p.0), below_cons 128 c r (leb-false 128 c f) p.1)
 
-scan-on : (l n c q : ℕ) (t : List ℕ) → q < 128 ^ n → scanFrom l (n + c) 0 0 (placesOn 128 plain n q t) ≡ scanFrom l c q n t
-unfolding placesOn
-scan-on l zero c q t h =
+scan_on : (l n c q : ℕ) (t : List ℕ) → q < 128 ^ n → scan_from l (n + c) 0 0 (places_on 128 plain n q t) ≡ scan_from l c q n t
+unfolding places_on
+scan_on l zero c q t h =
     let e : 0 ≡ q = omega (arith, pow-zero 128) in
     let f : 0 + c ≡ c = omega arith in
     rw (f, ← e)
-scan-on l (suc n) c q t h =
+scan_on l (suc n) c q t h =
     let e : suc n + c ≡ n + suc c = omega arith in
     rw e
-    (scan-on l n (suc c) (q / 128) (q % 128 ∷ t) (omega (arith, pow-suc 128 n))
-    ∙ scan-more l c (q / 128) n (q % 128) q t (omega arith) (omega arith)
-    ∙ ap (λ (k : ℕ). scanFrom l c q k t) (add-one n))
+    (scan_on l n (suc c) (q / 128) (q % 128 ∷ t) (omega (arith, pow-suc 128 n))
+    ∙ scan_more l c (q / 128) n (q % 128) q t (omega arith) (omega arith)
+    ∙ ap (λ (k : ℕ). scan_from l c q k t) (add-one n))
 
 -- n groups are read back as their number, whatever follows them, by a scan that takes as many bytes or more
-pub scan-groups : (l k n m : ℕ) (r : List ℕ) → 0 < n → n ≤ k → m < 128 ^ n → scanFrom l k 0 0 (groups n m ++ r) ≡ upTo l m n
-scan-groups l k zero m r z b h = absurd (omega arith)
-scan-groups l k (suc n) m r z b h =
+pub scan_groups : (l k n m : ℕ) (r : List ℕ) → 0 < n → n ≤ k → m < 128 ^ n → scan_from l k 0 0 (groups n m ++ r) ≡ up_to l m n
+scan_groups l k zero m r z b h = absurd (omega arith)
+scan_groups l k (suc n) m r z b h =
     let c = k - suc n in
     let e : k ≡ n + suc c = omega arith in
-    ap₂ (λ (x : ℕ) (s : List ℕ). scanFrom l x 0 0 s) e (groups-append n m r)
-    ∙ scan-on l n (suc c) (m / 128) ((128 + m % 128) ∷ r) (omega (arith, pow-suc 128 n))
-    ∙ scan-last l c (m / 128) n (128 + m % 128) m r (omega arith) (omega arith)
-    ∙ ap (upTo l m) (add-one n)
+    ap₂ (λ (x : ℕ) (s : List ℕ). scan_from l x 0 0 s) e (groups_append n m r)
+    ∙ scan_on l n (suc c) (m / 128) ((128 + m % 128) ∷ r) (omega (arith, pow-suc 128 n))
+    ∙ scan_last l c (m / 128) n (128 + m % 128) m r (omega arith) (omega arith)
+    ∙ ap (up_to l m) (add-one n)
 
 -- ---- what a scan finds: m in j bytes, of which the k first, those of v, stand in front of the bytes s
 
@@ -123,32 +124,32 @@ pub record Scanned (l v k : ℕ) (s : List ℕ) (m j : ℕ) : Type 0 where
   pub some : k < j
   pub within : j ≤ k + length s
   pub held : v < 128 ^ k → m < 128 ^ j
-  pub bytes : Below 256 s → placesOn 128 plain k v s ≡ groups j m ++ drop (j - k) s
+  pub bytes : Below 256 s → places_on 128 plain k v s ≡ groups j m ++ drop (j - k) s
 
-place-last : (k v c : ℕ) (r : List ℕ) → 128 ≤ c → c < 256 → placesOn 128 plain k v (c ∷ r) ≡ groups (suc k) (v * 128 + c % 128) ++ r
-place-last k v c r h l =
+place_last : (k v c : ℕ) (r : List ℕ) → 128 ≤ c → c < 256 → places_on 128 plain k v (c ∷ r) ≡ groups (suc k) (v * 128 + c % 128) ++ r
+place_last k v c r h l =
     let w = v * 128 + c % 128 in
     let e : w / 128 ≡ v = omega arith in
     let f : 128 + w % 128 ≡ c = omega arith in
-    sym (groups-append k w r ∙ rw (e, f))
+    sym (groups_append k w r ∙ rw (e, f))
 
 grown : (k v c : ℕ) → v < 128 ^ k → v * 128 + c % 128 < 128 ^ (k + 1)
 grown k v c h = rw (add-one k) (omega (arith, pow-suc 128 k))
 
-scanned-last : (l v k c w : ℕ) (r : List ℕ) → v * 128 + c % 128 ≡ w → 128 ≤ c → w ≤ l → Scanned l v k (c ∷ r) w (k + 1)
-scanned-last l v k c w r e h b =
+scanned_last : (l v k c w : ℕ) (r : List ℕ) → v * 128 + c % 128 ≡ w → 128 ≤ c → w ≤ l → Scanned l v k (c ∷ r) w (k + 1)
+scanned_last l v k c w r e h b =
     let d : k + 1 - k ≡ 1 = omega arith in
     record {
       limited = b;
       some = omega arith;
       within = omega arith;
       held = λ g. rw e at (grown k v c g);
-      bytes = λ g. rw (← e, d, add-one k) (place-last k v c r h (g 0));
+      bytes = λ g. rw (← e, d, add-one k) (place_last k v c r h (g 0));
     }
 
-scanned-more : (l v k c w : ℕ) (r : List ℕ) (m j : ℕ) → v * 128 + c % 128 ≡ w → c < 128 → Scanned l w (k + 1) r m j
+scanned_more : (l v k c w : ℕ) (r : List ℕ) (m j : ℕ) → v * 128 + c % 128 ≡ w → c < 128 → Scanned l w (k + 1) r m j
     → Scanned l v k (c ∷ r) m j
-scanned-more l v k c w r m j e h s =
+scanned_more l v k c w r m j e h s =
     let d : j - k ≡ suc (j - (k + 1)) = omega (arith, s.some) in
     let f : v * 128 + c ≡ w = omega arith in
     record {
@@ -156,26 +157,26 @@ scanned-more l v k c w r m j e h s =
       some = omega (arith, s.some);
       within = omega (arith, s.within);
       held = λ g. s.held (rw e at (grown k v c g));
-      bytes = λ g. place-more 128 plain k v c r h ∙ rw (f, ← add-one k, d) (s.bytes (λ i. g (suc i)));
+      bytes = λ g. place_more 128 plain k v c r h ∙ rw (f, ← add-one k, d) (s.bytes (λ i. g (suc i)));
     }
 
-pub scan-gives : (l n v k : ℕ) (s : List ℕ) (m j : ℕ) → scanFrom l n v k s ≡ Value m j → Scanned l v k s m j
-unfolding scanFrom
-scan-gives l zero v k s m j e = absurd (let z : ◌≡◌ {A = ℕ} 0 1 = cc in omega arith)
-scan-gives l (suc n) v k [] m j e = absurd (let z : ◌≡◌ {A = ℕ} 0 1 = cc in omega arith)
-scan-gives l (suc n) v k (c ∷ r) m j e = go (scan-gives l n w (k + 1) r m j) (leb 128 c) (ltb l w) refl refl e
+pub scan_gives : (l n v k : ℕ) (s : List ℕ) (m j : ℕ) → scan_from l n v k s ≡ Value m j → Scanned l v k s m j
+unfolding scan_from
+scan_gives l zero v k s m j e = absurd (let z : ◌≡◌ {A = ℕ} 0 1 = cc in omega arith)
+scan_gives l (suc n) v k [] m j e = absurd (let z : ◌≡◌ {A = ℕ} 0 1 = cc in omega arith)
+scan_gives l (suc n) v k (c ∷ r) m j e = go (scan_gives l n w (k + 1) r m j) (leb 128 c) (ltb l w) refl refl e
   where
     w : ℕ
     w = v * 128 + c % 128
 
-    go : (scanFrom l n w (k + 1) r ≡ Value m j → Scanned l w (k + 1) r m j) → (t u : Bool) → leb 128 c ≡ t → ltb l w ≡ u
-        → cond t (cond u Bad (Value w (k + 1))) (scanFrom l n w (k + 1) r) ≡ Value m j → Scanned l v k (c ∷ r) m j
+    go : (scan_from l n w (k + 1) r ≡ Value m j → Scanned l w (k + 1) r m j) → (t u : Bool) → leb 128 c ≡ t → ltb l w ≡ u
+        → cond t (cond u Bad (Value w (k + 1))) (scan_from l n w (k + 1) r) ≡ Value m j → Scanned l v k (c ∷ r) m j
     go ih true true f g e = absurd (let z : ◌≡◌ {A = ℕ} 0 1 = cc in omega arith)
     go ih true false f g e =
         let em : w ≡ m = cc in
         let ej : k + 1 ≡ j = cc in
-        rw (← em, ← ej) (scanned-last l v k c w r refl (leb-true 128 c f) (ltb-false l w g))
-    go ih false u f g e = scanned-more l v k c w r m j refl (leb-false 128 c f) (ih e)
+        rw (← em, ← ej) (scanned_last l v k c w r refl (leb-true 128 c f) (ltb-false l w g))
+    go ih false u f g e = scanned_more l v k c w r m j refl (leb-false 128 c f) (ih e)
 
 -- ---- what a scan has met that finds nothing: n bytes without a mark, or a number above l at one
 
@@ -183,29 +184,29 @@ pub data Missed (l n v k : ℕ) (s : List ℕ) : Type 0 where
   unmarked : n ≤ length s → Below 128 (take n s) → Missed l n v k s
   above : (m j : ℕ) → l < m → j ≤ k + n → Scanned m v k s m j → Missed l n v k s
 
-pub scan-unmarked : (l n v k : ℕ) (s : List ℕ) → n ≤ length s → Below 128 (take n s) → scanFrom l n v k s ≡ Bad
-unfolding scanFrom
-scan-unmarked l zero v k s h b = refl
-scan-unmarked l (suc n) v k [] h b = absurd (omega arith)
-scan-unmarked l (suc n) v k (c ∷ r) h b =
-    rw (lt-leb 128 c (b 0)) (scan-unmarked l n (v * 128 + c % 128) (k + 1) r (omega arith) (λ i. b (suc i)))
+pub scan_unmarked : (l n v k : ℕ) (s : List ℕ) → n ≤ length s → Below 128 (take n s) → scan_from l n v k s ≡ Bad
+unfolding scan_from
+scan_unmarked l zero v k s h b = refl
+scan_unmarked l (suc n) v k [] h b = absurd (omega arith)
+scan_unmarked l (suc n) v k (c ∷ r) h b =
+    rw (lt-leb 128 c (b 0)) (scan_unmarked l n (v * 128 + c % 128) (k + 1) r (omega arith) (λ i. b (suc i)))
 
-pub scan-missed : (l n v k : ℕ) (s : List ℕ) → scanFrom l n v k s ≡ Bad → Missed l n v k s
-unfolding scanFrom
-scan-missed l zero v k s e = unmarked (omega arith) (below-none 128 (lit< tt))
-scan-missed l (suc n) v k [] e = absurd (let z : ◌≡◌ {A = ℕ} 0 1 = cc in omega arith)
-scan-missed l (suc n) v k (c ∷ r) e = go (scan-missed l n w (k + 1) r) (leb 128 c) (ltb l w) refl refl e
+pub scan_missed : (l n v k : ℕ) (s : List ℕ) → scan_from l n v k s ≡ Bad → Missed l n v k s
+unfolding scan_from
+scan_missed l zero v k s e = unmarked (omega arith) (below_none 128 (lit< tt))
+scan_missed l (suc n) v k [] e = absurd (let z : ◌≡◌ {A = ℕ} 0 1 = cc in omega arith)
+scan_missed l (suc n) v k (c ∷ r) e = go (scan_missed l n w (k + 1) r) (leb 128 c) (ltb l w) refl refl e
   where
     w : ℕ
     w = v * 128 + c % 128
 
     more : c < 128 → Missed l n w (k + 1) r → Missed l (suc n) v k (c ∷ r)
-    more h (unmarked i b) = unmarked (omega arith) (below-cons 128 c (take n r) h b)
-    more h (above m j i x d) = above m j i (omega arith) (scanned-more m v k c w r m j refl h d)
+    more h (unmarked i b) = unmarked (omega arith) (below_cons 128 c (take n r) h b)
+    more h (above m j i x d) = above m j i (omega arith) (scanned_more m v k c w r m j refl h d)
 
-    go : (scanFrom l n w (k + 1) r ≡ Bad → Missed l n w (k + 1) r) → (t u : Bool) → leb 128 c ≡ t → ltb l w ≡ u
-        → cond t (cond u Bad (Value w (k + 1))) (scanFrom l n w (k + 1) r) ≡ Bad → Missed l (suc n) v k (c ∷ r)
+    go : (scan_from l n w (k + 1) r ≡ Bad → Missed l n w (k + 1) r) → (t u : Bool) → leb 128 c ≡ t → ltb l w ≡ u
+        → cond t (cond u Bad (Value w (k + 1))) (scan_from l n w (k + 1) r) ≡ Bad → Missed l (suc n) v k (c ∷ r)
     go ih true true f g e =
-        above w (k + 1) (ltb-true l w g) (omega arith) (scanned-last w v k c w r refl (leb-true 128 c f) (omega arith))
+        above w (k + 1) (ltb-true l w g) (omega arith) (scanned_last w v k c w r refl (leb-true 128 c f) (omega arith))
     go ih true false f g e = absurd (let z : ◌≡◌ {A = ℕ} 0 1 = cc in omega arith)
     go ih false u f g e = more (leb-false 128 c f) (ih e)

@@ -1,7 +1,7 @@
 // Port of binary/decimal.rs: a decimal that is not below zero, as its exponent and its coefficient.
 ghost use Rattle.std.specs.Prelude.{◌&&◌, ◌≡◌, ◌+◌, ◌≤◌, eqb, length};
 ghost use Rattle.ion.specs.Calls.Output.{put, wrote, Run};
-ghost use Rattle.ion.specs.Numbers.Decimal.{decimalBytes};
+ghost use Rattle.ion.specs.Numbers.Decimal.{decimal_bytes};
 
 use crate::{int, var_int};
 use ion::Written;
@@ -15,7 +15,7 @@ fn is_zero(coefficient: u64, magnitude: u64) -> bool
 
 // The number of bytes of a coefficient and an exponent.
 pub fn encoded_size_of(coefficient: u64, exponent: i64) -> usize
-    ensures { result ≡ length (decimalBytes coefficient exponent) }
+    ensures { result ≡ length (decimal_bytes coefficient exponent) }
 {
     let p = var_int::parts_of(exponent);
     if is_zero(coefficient, p.magnitude) {
@@ -26,8 +26,8 @@ pub fn encoded_size_of(coefficient: u64, exponent: i64) -> usize
 
 // Writes a decimal where there is room, for a writer that goes on from the index that is returned.
 pub fn put_decimal(buf: &mut [u8], at: usize, coefficient: u64, exponent: i64) -> usize
-    requires { at + length (decimalBytes coefficient exponent) ≤ length buf.old }
-    ensures { Run buf.old at (decimalBytes coefficient exponent) buf.new result }
+    requires { at + length (decimal_bytes coefficient exponent) ≤ length buf.old }
+    ensures { Run buf.old at (decimal_bytes coefficient exponent) buf.new result }
 {
     let p = var_int::parts_of(exponent);
     if is_zero(coefficient, p.magnitude) {
@@ -39,8 +39,8 @@ pub fn put_decimal(buf: &mut [u8], at: usize, coefficient: u64, exponent: i64) -
 
 // Writes a decimal from index `at` on.
 pub fn encode_decimal(buf: &mut [u8], at: usize, coefficient: u64, exponent: i64) -> Written
-    ensures value { result ≡ wrote buf.old at (decimalBytes coefficient exponent) }
-    ensures buffer { buf.new ≡ put buf.old at (decimalBytes coefficient exponent) }
+    ensures value { result ≡ wrote buf.old at (decimal_bytes coefficient exponent) }
+    ensures buffer { buf.new ≡ put buf.old at (decimal_bytes coefficient exponent) }
 {
     let n = encoded_size_of(coefficient, exponent);
     let answer = output::room_for(buf.len(), at, n);

@@ -3,14 +3,14 @@
 ghost use Rattle.std.specs.Prelude.{◌≡◌, ◌+◌, ◌≤◌, length};
 ghost use Rattle.places.specs.Places.{plain, places};
 ghost use Rattle.ion.specs.Calls.Output.{over, put, wrote, Run};
-ghost use Rattle.ion.specs.Numbers.Int.{intCount, int, readInt};
-ghost use Rattle.ion.specs.Numbers.NumberReads.{intAnswer, intOf};
+ghost use Rattle.ion.specs.Numbers.Int.{int_count, int, read_int};
+ghost use Rattle.ion.specs.Numbers.NumberReads.{int_answer, int_of};
 
 use ion::{IntRead, Written};
 
 // The number of bytes of `value`, from its leading zeros.
 pub fn encoded_size_of(value: u64) -> usize
-    ensures { result ≡ intCount value }
+    ensures { result ≡ int_count value }
 {
     if value == 0 {
         return 0;
@@ -48,7 +48,7 @@ pub fn write_u64(buf: &mut [u8], at: usize, value: u64) -> Written
 
 // The same where there is room, for a writer that goes on from the index that is returned.
 pub fn put_u64(buf: &mut [u8], at: usize, value: u64) -> usize
-    requires { at + intCount value ≤ length buf.old }
+    requires { at + int_count value ≤ length buf.old }
     ensures { Run buf.old at (int value) buf.new result }
 {
     let n = encoded_size_of(value);
@@ -61,8 +61,8 @@ const MOST_BYTES: usize = 9;
 
 // The number whose shortest form is `s`, all of it.
 pub fn read_u64(s: &[u8]) -> IntRead
-    ensures value { result ≡ readInt s.now }
-    ensures numbered { intAnswer (length s.now) result ≡ intOf s.now }
+    ensures value { result ≡ read_int s.now }
+    ensures numbered { int_answer (length s.now) result ≡ int_of s.now }
 {
     if MOST_BYTES < s.len() {
         return IntRead::Bad;

@@ -1,8 +1,8 @@
 // VarInt of Ion binary: as VarUInt, but the first byte holds six bits, and the sign in bit 0x40.
 ghost use Rattle.std.specs.Prelude.{◌≡◌, true, ◌+◌, ◌≤◌, nat_abs, length, drop};
 ghost use Rattle.ion.specs.Calls.Output.{over, put, wrote, Run};
-ghost use Rattle.ion.specs.Numbers.VarInt.{isNegative, signedCount, signed, varint, readVarInt};
-ghost use Rattle.ion.specs.Numbers.NumberReads.{varIntAnswer, varIntOf};
+ghost use Rattle.ion.specs.Numbers.VarInt.{is_negative, signed_count, signed, varint, read_var_int};
+ghost use Rattle.ion.specs.Numbers.NumberReads.{var_int_answer, var_int_of};
 
 use crate::var_uint;
 use crate::var_uint::END_FLAG;
@@ -20,7 +20,7 @@ pub struct Parts {
 
 // The sign and the size of `value`, of the lowest i64 too.
 pub fn parts_of(value: i64) -> Parts
-    ensures negative { result.negative ≡ isNegative value }
+    ensures negative { result.negative ≡ is_negative value }
     ensures magnitude { result.magnitude ≡ nat_abs value }
 {
     Parts {
@@ -31,14 +31,14 @@ pub fn parts_of(value: i64) -> Parts
 
 // The number of bytes of a magnitude with the sign's bit in front, from its leading zeros.
 pub fn encoded_size_of(magnitude: u64) -> usize
-    ensures { result ≡ signedCount magnitude }
+    ensures { result ≡ signed_count magnitude }
 {
     (64 - (u64::leading_zeros(magnitude) as usize)) / 7 + 1
 }
 
 // Writes a sign and a magnitude, in the `n` bytes that it has, from index `at` on.
 fn put_signed(buf: &mut [u8], at: usize, n: usize, p: Parts)
-    requires { (n ≡ signedCount p.magnitude) × (at + n ≤ length buf.old) }
+    requires { (n ≡ signed_count p.magnitude) × (at + n ≤ length buf.old) }
     ensures { buf.new ≡ over buf.old at (signed p.negative p.magnitude) }
 {
     var_uint::put_groups(buf, at, n, p.magnitude);
@@ -86,7 +86,7 @@ pub fn write_negative_zero(buf: &mut [u8], at: usize) -> Written
 
 // As `write_parts` where there is room, for a writer that goes on from the index that is returned.
 pub fn put_parts(buf: &mut [u8], at: usize, p: Parts) -> usize
-    requires { at + signedCount p.magnitude ≤ length buf.old }
+    requires { at + signed_count p.magnitude ≤ length buf.old }
     ensures { Run buf.old at (signed p.negative p.magnitude) buf.new result }
 {
     let size = encoded_size_of(p.magnitude);
@@ -96,7 +96,7 @@ pub fn put_parts(buf: &mut [u8], at: usize, p: Parts) -> usize
 
 // As `write_i64` where there is room, for a writer that goes on from the index that is returned.
 pub fn put_i64(buf: &mut [u8], at: usize, value: i64) -> usize
-    requires { at + signedCount (nat_abs value) ≤ length buf.old }
+    requires { at + signed_count (nat_abs value) ≤ length buf.old }
     ensures { Run buf.old at (varint value) buf.new result }
 {
     put_parts(buf, at, parts_of(value))
@@ -104,8 +104,8 @@ pub fn put_i64(buf: &mut [u8], at: usize, value: i64) -> usize
 
 // Reads the VarInt at index `at`, in its shortest form and of a magnitude not above `limit`.
 pub fn read_i64(s: &[u8], at: usize, limit: u64) -> VarIntRead
-    ensures value { result ≡ readVarInt limit (drop at s.now) }
-    ensures numbered { varIntAnswer result ≡ varIntOf limit (drop at s.now) }
+    ensures value { result ≡ read_var_int limit (drop at s.now) }
+    ensures numbered { var_int_answer result ≡ var_int_of limit (drop at s.now) }
 {
     if s.len() <= at {
         return VarIntRead::Cut;

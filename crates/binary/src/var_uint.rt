@@ -1,8 +1,8 @@
 // VarUInt of Ion binary: seven bits a byte, highest group first, bit 0x80 marks the last byte.
 ghost use Rattle.std.specs.Prelude.{◌≡◌, ◌+◌, ◌-◌, ◌*◌, ◌%◌, ◌^◌, ◌≤◌, ◌<◌, length, drop};
 ghost use Rattle.ion.specs.Calls.Output.{over, put, wrote, Run};
-ghost use Rattle.ion.specs.Numbers.VarUInt.{groups, groupCount, varuint, upTo, scanFrom, zeroFirst, readVarUInt};
-ghost use Rattle.ion.specs.Numbers.NumberReads.{varUIntAnswer, varUIntOf};
+ghost use Rattle.ion.specs.Numbers.VarUInt.{groups, group_count, varuint, up_to, scan_from, zero_first, read_var_uint};
+ghost use Rattle.ion.specs.Numbers.NumberReads.{var_uint_answer, var_uint_of};
 
 use ion::{VarUIntRead, Written};
 
@@ -11,7 +11,7 @@ pub const END_FLAG: u8 = 0x80;
 
 // The number of bytes of `value` as a VarUInt, from its leading zeros.
 pub fn encoded_size_of(value: u64) -> usize
-    ensures { result ≡ groupCount value }
+    ensures { result ≡ group_count value }
 {
     let bits_used = 64 - (u64::leading_zeros(value) as usize);
     if bits_used == 0 {
@@ -52,7 +52,7 @@ pub fn write_u64(buf: &mut [u8], at: usize, value: u64) -> Written
 
 // The same where there is room, for a writer that goes on from the index that is returned.
 pub fn put_u64(buf: &mut [u8], at: usize, value: u64) -> usize
-    requires { at + groupCount value ≤ length buf.old }
+    requires { at + group_count value ≤ length buf.old }
     ensures { Run buf.old at (varuint value) buf.new result }
 {
     let size = encoded_size_of(value);
@@ -71,7 +71,7 @@ pub(crate) fn read_groups(
     limit: u64,
 ) -> VarUIntRead
     requires { (start < 128 ^ taken) × (most ≤ 10) }
-    ensures { result ≡ scanFrom limit (most - taken) start taken (drop at s.now) }
+    ensures { result ≡ scan_from limit (most - taken) start taken (drop at s.now) }
 {
     let mut v = start;
     let mut k = taken;
@@ -97,7 +97,7 @@ pub(crate) fn read_groups(
 
 // The value of `n` groups, of which `b` is the last and `v` are the others.
 fn last_group(v: u64, b: u8, n: usize, limit: u64) -> VarUIntRead
-    ensures { result ≡ upTo limit (v * 128 + b % 128) n }
+    ensures { result ≡ up_to limit (v * 128 + b % 128) n }
 {
     if limit / 128 < v {
         return VarUIntRead::Bad;
@@ -111,7 +111,7 @@ fn last_group(v: u64, b: u8, n: usize, limit: u64) -> VarUIntRead
 
 // Whether the bytes from index `at` on begin with a 0 that is not the last of them.
 fn zero_first(s: &[u8], at: usize) -> bool
-    ensures { result ≡ zeroFirst (drop at s.now) }
+    ensures { result ≡ zero_first (drop at s.now) }
 {
     if s.len() <= at {
         return false;
@@ -124,8 +124,8 @@ fn zero_first(s: &[u8], at: usize) -> bool
 
 // Reads the VarUInt at index `at`, in its shortest form and not above `limit`.
 pub fn read_u64(s: &[u8], at: usize, limit: u64) -> VarUIntRead
-    ensures value { result ≡ readVarUInt limit (drop at s.now) }
-    ensures numbered { varUIntAnswer result ≡ varUIntOf limit (drop at s.now) }
+    ensures value { result ≡ read_var_uint limit (drop at s.now) }
+    ensures numbered { var_uint_answer result ≡ var_uint_of limit (drop at s.now) }
 {
     if zero_first(s, at) {
         return VarUIntRead::Bad;

@@ -5,9 +5,9 @@ use Prim.Native.Nat.{ℕ, ◌^◌, ◌≤◌, ◌<◌}
 use native.Mathlib.Omega.{arith}
 use lib.IntN.{ℤ, nat_abs}
 use borrow.Author.Tests.{lt-ltb, le-ltb, lt-leb, ltb-false, leb-false, ltb-true, not-false}
-use Rattle.places.proofs.Decides.{Decides, le-decides, ◌and◌}
-use Rattle.ion.specs.Pair.Offset.{WithinDay, isOffset}
-use Rattle.ion.specs.Calls.Build.{precisionNumber, rangeChecks, offsetOutside, toOffset, isYear}
+use Rattle.places.proofs.Decides.{Decides, le_decides, ◌and◌}
+use Rattle.ion.specs.Pair.Offset.{WithinDay, is_offset}
+use Rattle.ion.specs.Calls.Build.{precision_number, range_checks, offset_outside, to_offset, is_year}
 use Rattle.ion.specs.Calls.Accepted.{InBounds}
 use Rattle.ion.specs.declared.BuilderFields.{BuilderFields}
 use Rattle.ion.specs.declared.BuilderOffset.{BuilderOffset}
@@ -16,24 +16,24 @@ use Rattle.ion.specs.declared.TimestampPrecision.{TimestampPrecision}
 use Rattle.ion.specs.declared.TimestampPrecision.TheVariants.{Year, Month, Day, HourAndMinute, Second}
 use Rattle.builder.proofs.Checks.{AllPass}
 
-offset-is : (z : ℤ) → not (isOffset z) ≡ false → nat_abs z < 1440
-offset-is z e = ltb-true (nat_abs z) 1440 (not-false (isOffset z) e)
+offset_is : (z : ℤ) → not (is_offset z) ≡ false → nat_abs z < 1440
+offset_is z e = ltb-true (nat_abs z) 1440 (not-false (is_offset z) e)
 
-is-offset : (z : ℤ) → nat_abs z < 1440 → not (isOffset z) ≡ false
-is-offset z h = ap not (lt-ltb (nat_abs z) 1440 h)
+is_offset_lem : (z : ℤ) → nat_abs z < 1440 → not (is_offset z) ≡ false
+is_offset_lem z h = ap not (lt-ltb (nat_abs z) 1440 h)
 
-within : (o : BuilderOffset) → offsetOutside o ≡ false → WithinDay (toOffset o)
+within : (o : BuilderOffset) → offset_outside o ≡ false → WithinDay (to_offset o)
 within Unknown e = tt
-within (FromLocalFields m) e = offset-is m.0 e
-within (FromUtcFields m) e = offset-is m.0 e
+within (FromLocalFields m) e = offset_is m.0 e
+within (FromUtcFields m) e = offset_is m.0 e
 
-not-outside : (o : BuilderOffset) → WithinDay (toOffset o) → offsetOutside o ≡ false
-not-outside Unknown h = refl
-not-outside (FromLocalFields m) h = is-offset m.0 h
-not-outside (FromUtcFields m) h = is-offset m.0 h
+not_outside : (o : BuilderOffset) → WithinDay (to_offset o) → offset_outside o ≡ false
+not_outside Unknown h = refl
+not_outside (FromLocalFields m) h = is_offset_lem m.0 h
+not_outside (FromUtcFields m) h = is_offset_lem m.0 h
 
-pub in-bounds : (f : BuilderFields) → AllPass (rangeChecks f) → InBounds f
-in-bounds f (a, (y, (mo, (d, (h, (mi, (s, (n, (o, e))))))))) =
+pub in_bounds : (f : BuilderFields) → AllPass (range_checks f) → InBounds f
+in_bounds f (a, (y, (mo, (d, (h, (mi, (s, (n, (o, e))))))))) =
     record {
       attoseconds = leb-false (10 ^ 18) f.attoseconds a;
       year = ltb-false 9999 f.year y;
@@ -46,8 +46,8 @@ in-bounds f (a, (y, (mo, (d, (h, (mi, (s, (n, (o, e))))))))) =
       offset = within f.offset o;
     }
 
-pub bounds-pass : (f : BuilderFields) → InBounds f → AllPass (rangeChecks f)
-bounds-pass f b =
+pub bounds_pass : (f : BuilderFields) → InBounds f → AllPass (range_checks f)
+bounds_pass f b =
     let a = lt-leb (10 ^ 18) f.attoseconds b.attoseconds in
     let y = le-ltb 9999 f.year b.year in
     let mo = le-ltb 12 f.month b.month in
@@ -56,14 +56,14 @@ bounds-pass f b =
     let mi = le-ltb 59 f.minute b.minute in
     let s = le-ltb 59 f.second b.second in
     let n = le-ltb 18 f.digits b.digits in
-    (a, (y, (mo, (d, (h, (mi, (s, (n, (not-outside f.offset b.offset, tt)))))))))
+    (a, (y, (mo, (d, (h, (mi, (s, (n, (not_outside f.offset b.offset, tt)))))))))
 
-pub precision-le : (p : TimestampPrecision) → precisionNumber p ≤ 4
-precision-le Year = omega arith
-precision-le Month = omega arith
-precision-le Day = omega arith
-precision-le HourAndMinute = omega arith
-precision-le Second = omega arith
+pub precision_le : (p : TimestampPrecision) → precision_number p ≤ 4
+precision_le Year = omega arith
+precision_le Month = omega arith
+precision_le Day = omega arith
+precision_le HourAndMinute = omega arith
+precision_le Second = omega arith
 
-pub year-decides : (y : ℕ) → Decides (isYear y) ((1 ≤ y) × (y ≤ 9999))
-year-decides y = le-decides 1 y and le-decides y 9999
+pub year_decides : (y : ℕ) → Decides (is_year y) ((1 ≤ y) × (y ≤ 9999))
+year_decides y = le_decides 1 y and le_decides y 9999

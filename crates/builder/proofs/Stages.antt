@@ -4,11 +4,13 @@ use mathlib.Core.Path.{◌≡◌, refl, sym, ap, subst}
 use Prim.Native.Nat.{ℕ, ◌%◌, ◌^◌, ◌<◌}
 use native.Mathlib.Omega.{arith}
 use Rattle.ion.specs.Pair.Fraction.{scale}
-use Rattle.ion.specs.Calls.Build.{precisionNumber}
+use Rattle.ion.specs.Calls.Build.{precision_number}
 use Rattle.ion.specs.Calls.Accepted.{Staged}
-use Rattle.ion.specs.Calls.Stages.{builderFields, withYear, withMonth, withDay, withHour, withHourAndMinute, withMinute, withSecond}
-use Rattle.ion.specs.Calls.Stages.{withFraction, withOffset, Stage, hasYear, hasMonth, hasDay, hasHour, hasMinute, hasSeconds, hasFraction}
-use Rattle.ion.specs.Calls.Stages.{hasOffset, Offsets, Gives}
+use Rattle.ion.specs.Calls.Stages.{builder_fields, with_year, with_month, with_day}
+use Rattle.ion.specs.Calls.Stages.{with_hour, with_hour_and_minute, with_minute, with_second}
+use Rattle.ion.specs.Calls.Stages.{with_fraction, with_offset, Stage, has_year, has_month}
+use Rattle.ion.specs.Calls.Stages.{has_day, has_hour, has_minute, has_seconds, has_fraction}
+use Rattle.ion.specs.Calls.Stages.{has_offset, Offsets, Gives}
 use Rattle.ion.specs.Calls.Stages as stages
 use Rattle.ion.specs.declared.BuilderFields.{BuilderFields}
 use Rattle.ion.specs.declared.BuilderOffset.{BuilderOffset}
@@ -24,20 +26,20 @@ Cut a digits = a < 10 ^ 18 → a % scale digits ≡ 0
 
 -- the fields at a stage: those not given have their first values
 At : Stage → BuilderFields → Type 0
-At hasYear f = f ≡ builderFields Year Unknown f.year 1 1 0 0 0 0 0
-At hasMonth f = f ≡ builderFields Month Unknown f.year f.month 1 0 0 0 0 0
-At hasDay f = f ≡ builderFields Day Unknown f.year f.month f.day 0 0 0 0 0
-At hasHour f = f ≡ builderFields HourAndMinute Unknown f.year f.month f.day f.hour 0 0 0 0
-At hasMinute f = f ≡ builderFields HourAndMinute Unknown f.year f.month f.day f.hour f.minute 0 0 0
-At hasSeconds f = f ≡ builderFields Second Unknown f.year f.month f.day f.hour f.minute f.second 0 0
-At hasFraction f =
-    (f ≡ builderFields Second Unknown f.year f.month f.day f.hour f.minute f.second f.attoseconds f.digits) × Cut
+At has_year f = f ≡ builder_fields Year Unknown f.year 1 1 0 0 0 0 0
+At has_month f = f ≡ builder_fields Month Unknown f.year f.month 1 0 0 0 0 0
+At has_day f = f ≡ builder_fields Day Unknown f.year f.month f.day 0 0 0 0 0
+At has_hour f = f ≡ builder_fields HourAndMinute Unknown f.year f.month f.day f.hour 0 0 0 0
+At has_minute f = f ≡ builder_fields HourAndMinute Unknown f.year f.month f.day f.hour f.minute 0 0 0
+At has_seconds f = f ≡ builder_fields Second Unknown f.year f.month f.day f.hour f.minute f.second 0 0
+At has_fraction f =
+    (f ≡ builder_fields Second Unknown f.year f.month f.day f.hour f.minute f.second f.attoseconds f.digits) × Cut
     f.attoseconds f.digits
-At hasOffset f = Staged f
+At has_offset f = Staged f
 
 -- fields to the minute, and to the second, with any offset
-pub to-minute : (o : BuilderOffset) (y mo d h mi : ℕ) → Staged (builderFields HourAndMinute o y mo d h mi 0 0 0)
-to-minute o y mo d h mi =
+pub to_minute_lem : (o : BuilderOffset) (y mo d h mi : ℕ) → Staged (builder_fields HourAndMinute o y mo d h mi 0 0 0)
+to_minute_lem o y mo d h mi =
     record {
       month = λ k. absurd (omega arith);
       day = λ k. absurd (omega arith);
@@ -49,8 +51,8 @@ to-minute o y mo d h mi =
       multiple = λ k. refl;
     }
 
-pub to-second : (o : BuilderOffset) (y mo d h mi s a n : ℕ) → Cut a n → Staged (builderFields Second o y mo d h mi s a n)
-to-second o y mo d h mi s a n c =
+pub to_second_lem : (o : BuilderOffset) (y mo d h mi s a n : ℕ) → Cut a n → Staged (builder_fields Second o y mo d h mi s a n)
+to_second_lem o y mo d h mi s a n c =
     record {
       month = λ k. absurd (omega arith);
       day = λ k. absurd (omega arith);
@@ -62,38 +64,38 @@ to-second o y mo d h mi s a n c =
       multiple = c;
     }
 
-no-fraction : Cut 0 0
-no-fraction h = refl
+no_fraction : Cut 0 0
+no_fraction h = refl
 
-offset-staged : {t : Stage} (f : BuilderFields) (o : BuilderOffset) → Offsets t → At t f → Staged (withOffset f o)
+offset_staged : {t : Stage} (f : BuilderFields) (o : BuilderOffset) → Offsets t → At t f → Staged (with_offset f o)
 unfolding At
-offset-staged f o stages.hour e =
-    subst (λ (g : BuilderFields). Staged (withOffset g o)) (sym e) (to-minute o f.year f.month f.day f.hour 0)
-offset-staged f o stages.minute e =
-    subst (λ (g : BuilderFields). Staged (withOffset g o)) (sym e) (to-minute o f.year f.month f.day f.hour f.minute)
-offset-staged f o stages.seconds e =
-    subst (λ (g : BuilderFields). Staged (withOffset g o)) (sym e)
-    (to-second o f.year f.month f.day f.hour f.minute f.second 0 0 no-fraction)
-offset-staged f o stages.fraction (e, c) =
-    subst (λ (g : BuilderFields). Staged (withOffset g o)) (sym e)
-    (to-second o f.year f.month f.day f.hour f.minute f.second f.attoseconds f.digits c)
+offset_staged f o stages.hour e =
+    subst (λ (g : BuilderFields). Staged (with_offset g o)) (sym e) (to_minute_lem o f.year f.month f.day f.hour 0)
+offset_staged f o stages.minute e =
+    subst (λ (g : BuilderFields). Staged (with_offset g o)) (sym e) (to_minute_lem o f.year f.month f.day f.hour f.minute)
+offset_staged f o stages.seconds e =
+    subst (λ (g : BuilderFields). Staged (with_offset g o)) (sym e)
+    (to_second_lem o f.year f.month f.day f.hour f.minute f.second 0 0 no_fraction)
+offset_staged f o stages.fraction (e, c) =
+    subst (λ (g : BuilderFields). Staged (with_offset g o)) (sym e)
+    (to_second_lem o f.year f.month f.day f.hour f.minute f.second f.attoseconds f.digits c)
 
-at-stage : {t : Stage} {f : BuilderFields} → Gives t f → At t f
+at_stage : {t : Stage} {f : BuilderFields} → Gives t f → At t f
 unfolding At
-at-stage (stages.year y) = refl
-at-stage (stages.month g m) = ap (λ (f : BuilderFields). withMonth f m) (at-stage g)
-at-stage (stages.day g d) = ap (λ (f : BuilderFields). withDay f d) (at-stage g)
-at-stage (stages.hour g h) = ap (λ (f : BuilderFields). withHour f h) (at-stage g)
-at-stage (stages.both g h m) = ap (λ (f : BuilderFields). withHourAndMinute f h m) (at-stage g)
-at-stage (stages.minute g m) = ap (λ (f : BuilderFields). withMinute f m) (at-stage g)
-at-stage (stages.second g s) = ap (λ (f : BuilderFields). withSecond f s) (at-stage g)
-at-stage (stages.fraction {x = x} g k) = (ap (λ (f : BuilderFields). withFraction f x) (at-stage g), multiple k)
-at-stage (stages.local {f = f} o g m) = offset-staged f (FromLocalFields m) o (at-stage g)
-at-stage (stages.utc {f = f} o g m) = offset-staged f (FromUtcFields m) o (at-stage g)
+at_stage (stages.year y) = refl
+at_stage (stages.month g m) = ap (λ (f : BuilderFields). with_month f m) (at_stage g)
+at_stage (stages.day g d) = ap (λ (f : BuilderFields). with_day f d) (at_stage g)
+at_stage (stages.hour g h) = ap (λ (f : BuilderFields). with_hour f h) (at_stage g)
+at_stage (stages.both g h m) = ap (λ (f : BuilderFields). with_hour_and_minute f h m) (at_stage g)
+at_stage (stages.minute g m) = ap (λ (f : BuilderFields). with_minute f m) (at_stage g)
+at_stage (stages.second g s) = ap (λ (f : BuilderFields). with_second f s) (at_stage g)
+at_stage (stages.fraction {x = x} g k) = (ap (λ (f : BuilderFields). with_fraction f x) (at_stage g), multiple k)
+at_stage (stages.local {f = f} o g m) = offset_staged f (FromLocalFields m) o (at_stage g)
+at_stage (stages.utc {f = f} o g m) = offset_staged f (FromUtcFields m) o (at_stage g)
 
-to-day : (p : TimestampPrecision) (y mo d : ℕ) → (precisionNumber p < 1 → mo ≡ 1) → (precisionNumber p < 2 → d ≡ 1)
-    → Staged (builderFields p Unknown y mo d 0 0 0 0 0)
-to-day p y mo d h k =
+to_day_lem : (p : TimestampPrecision) (y mo d : ℕ) → (precision_number p < 1 → mo ≡ 1) → (precision_number p < 2 → d ≡ 1)
+    → Staged (builder_fields p Unknown y mo d 0 0 0 0 0)
+to_day_lem p y mo d h k =
     record {
       month = h;
       day = k;
@@ -105,36 +107,36 @@ to-day p y mo d h k =
       multiple = λ l. refl;
     }
 
-staged-at : (t : Stage) (f : BuilderFields) → At t f → Staged f
+staged_at : (t : Stage) (f : BuilderFields) → At t f → Staged f
 unfolding At
-staged-at hasYear f e = subst Staged (sym e) (to-day Year f.year 1 1 (λ k. refl) (λ k. refl))
-staged-at hasMonth f e = subst Staged (sym e) (to-day Month f.year f.month 1 (λ k. absurd (omega arith)) (λ k. refl))
-staged-at hasDay f e =
-    subst Staged (sym e) (to-day Day f.year f.month f.day (λ k. absurd (omega arith)) (λ k. absurd (omega arith)))
-staged-at hasHour f e = subst Staged (sym e) (to-minute Unknown f.year f.month f.day f.hour 0)
-staged-at hasMinute f e = subst Staged (sym e) (to-minute Unknown f.year f.month f.day f.hour f.minute)
-staged-at hasSeconds f e =
-    subst Staged (sym e) (to-second Unknown f.year f.month f.day f.hour f.minute f.second 0 0 no-fraction)
-staged-at hasFraction f (e, c) =
-    subst Staged (sym e) (to-second Unknown f.year f.month f.day f.hour f.minute f.second f.attoseconds f.digits c)
-staged-at hasOffset f s = s
+staged_at has_year f e = subst Staged (sym e) (to_day_lem Year f.year 1 1 (λ k. refl) (λ k. refl))
+staged_at has_month f e = subst Staged (sym e) (to_day_lem Month f.year f.month 1 (λ k. absurd (omega arith)) (λ k. refl))
+staged_at has_day f e =
+    subst Staged (sym e) (to_day_lem Day f.year f.month f.day (λ k. absurd (omega arith)) (λ k. absurd (omega arith)))
+staged_at has_hour f e = subst Staged (sym e) (to_minute_lem Unknown f.year f.month f.day f.hour 0)
+staged_at has_minute f e = subst Staged (sym e) (to_minute_lem Unknown f.year f.month f.day f.hour f.minute)
+staged_at has_seconds f e =
+    subst Staged (sym e) (to_second_lem Unknown f.year f.month f.day f.hour f.minute f.second 0 0 no_fraction)
+staged_at has_fraction f (e, c) =
+    subst Staged (sym e) (to_second_lem Unknown f.year f.month f.day f.hour f.minute f.second f.attoseconds f.digits c)
+staged_at has_offset f s = s
 
-pub gives-staged : {t : Stage} {f : BuilderFields} → Gives t f → Staged f
-gives-staged {t} {f} g = staged-at t f (at-stage g)
+pub gives_staged : {t : Stage} {f : BuilderFields} → Gives t f → Staged f
+gives_staged {t} {f} g = staged_at t f (at_stage g)
 
 -- ---- what is kept
 
 -- the last stage has every field that was given
-pub all-kept : (y mo d h mi s : ℕ) (x : Fraction) (o : BuilderOffset)
-    → withOffset (withFraction (withSecond (withMinute (withHour (withDay (withMonth (withYear y) mo) d) h) mi) s) x) o
-    ≡ builderFields Second o y mo d h mi s x.attoseconds x.digits
-all-kept y mo d h mi s x o = refl
+pub all_kept : (y mo d h mi s : ℕ) (x : Fraction) (o : BuilderOffset)
+    → with_offset (with_fraction (with_second (with_minute (with_hour (with_day (with_month (with_year y) mo) d) h) mi) s) x) o
+    ≡ builder_fields Second o y mo d h mi s x.attoseconds x.digits
+all_kept y mo d h mi s x o = refl
 
 -- an hour without its minute is minute 0, at the same precision
-pub hour-alone : (y mo d h : ℕ) (o : BuilderOffset)
-    → withOffset (withHour (withDay (withMonth (withYear y) mo) d) h) o ≡ builderFields HourAndMinute o y mo d h 0 0 0 0
-hour-alone y mo d h o = refl
+pub hour_alone : (y mo d h : ℕ) (o : BuilderOffset)
+    → with_offset (with_hour (with_day (with_month (with_year y) mo) d) h) o ≡ builder_fields HourAndMinute o y mo d h 0 0 0 0
+hour_alone y mo d h o = refl
 
 -- an hour and a minute at once are one after the other
-pub both-one-by-one : (f : BuilderFields) (h mi : ℕ) → withHourAndMinute f h mi ≡ withMinute (withHour f h) mi
-both-one-by-one f h mi = refl
+pub both_one_by_one : (f : BuilderFields) (h mi : ℕ) → with_hour_and_minute f h mi ≡ with_minute (with_hour f h) mi
+both_one_by_one f h mi = refl

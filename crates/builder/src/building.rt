@@ -1,7 +1,7 @@
 // The builder: the checks 1 to 9 in their order, then the route of the fields.
 ghost use Rattle.std.specs.Prelude.{◌≡◌};
 ghost use Rattle.ion.specs.Calls.Accepted.{Staged};
-ghost use Rattle.ion.specs.Calls.Build.{toOffset, isUtc, offsetOutside, firstOf, rangeChecks, buildOf};
+ghost use Rattle.ion.specs.Calls.Build.{to_offset, is_utc, offset_outside, first_of, range_checks, build_of};
 
 use crate::routes::{from_fields, from_utc_fields};
 use ion::offset::Offset;
@@ -9,7 +9,7 @@ use ion::{BuilderFields, BuilderOffset, Built, MAX_ATTOSECONDS, offset, refusal}
 
 // Whether an offset is known and a day or more.
 fn offset_outside(f: BuilderFields) -> bool
-    ensures { result ≡ offsetOutside f.offset }
+    ensures { result ≡ offset_outside f.offset }
 {
     let o = f.offset;
     match o {
@@ -21,7 +21,7 @@ fn offset_outside(f: BuilderFields) -> bool
 
 // The offset of a timestamp that is built.
 fn to_offset(f: BuilderFields) -> Offset
-    ensures { result ≡ toOffset f.offset }
+    ensures { result ≡ to_offset f.offset }
 {
     let o = f.offset;
     match o {
@@ -33,7 +33,7 @@ fn to_offset(f: BuilderFields) -> Offset
 
 // Whether the fields are UTC's.
 fn is_utc(f: BuilderFields) -> bool
-    ensures { result ≡ isUtc f.offset }
+    ensures { result ≡ is_utc f.offset }
 {
     let o = f.offset;
     match o {
@@ -45,7 +45,7 @@ fn is_utc(f: BuilderFields) -> bool
 
 // The checks 1 to 9: the number of the first that fails, or 0.
 fn validate_field_ranges(f: BuilderFields) -> u32
-    ensures { result ≡ firstOf (rangeChecks f) }
+    ensures { result ≡ first_of (range_checks f) }
 {
     let attoseconds = f.attoseconds;
     let year = f.year;
@@ -87,8 +87,9 @@ fn validate_field_ranges(f: BuilderFields) -> u32
 
 // The timestamp of the fields, or the number of the first check that fails. Of fields that no stage gives it may make a pair
 // that the packed check refuses: only the stages and `build_fields` call it.
+#[tactic(auto, using(crate::proofs::Routed::routes))]
 pub(crate) fn build(f: BuilderFields) -> Built
-    ensures { result ≡ buildOf f }
+    ensures { result ≡ build_of f }
 {
     let n = validate_field_ranges(f);
     if n != 0 {
@@ -104,7 +105,7 @@ pub(crate) fn build(f: BuilderFields) -> Built
 // For the crates above that gather fields in one record: what they pass must be fields that the stages can give.
 pub fn build_fields(f: BuilderFields) -> Built
     requires { Staged f }
-    ensures { result ≡ buildOf f }
+    ensures { result ≡ build_of f }
 {
     build(f)
 }

@@ -9,7 +9,7 @@ mod routes;
 mod time;
 
 ghost use Rattle.std.specs.Prelude.{◌≡◌};
-ghost use Rattle.ion.specs.Calls.Stages.{withYear, withMonth, withDay};
+ghost use Rattle.ion.specs.Calls.Stages.{with_year, with_month, with_day};
 
 pub use building::build_fields;
 use ion::{BuilderFields, BuilderOffset, TimestampPrecision};
@@ -55,7 +55,7 @@ pub struct HasOffset {
 }
 
 pub fn with_year(year: u32) -> HasYear
-    ensures { result.fields ≡ withYear year }
+    ensures { result.fields ≡ with_year year }
 {
     HasYear {
         fields: BuilderFields {
@@ -74,7 +74,7 @@ pub fn with_year(year: u32) -> HasYear
 }
 
 pub fn with_ymd(year: u32, month: u32, day: u32) -> HasDay
-    ensures { result.fields ≡ withDay (withMonth (withYear year) month) day }
+    ensures { result.fields ≡ with_day (with_month (with_year year) month) day }
 {
     with_year(year).with_month(month).with_day(day)
 }

@@ -1,8 +1,8 @@
 // An offset was given last: a known one, in minutes.
 ghost use Rattle.std.specs.Prelude.{◌≡◌};
-ghost use Rattle.ion.specs.Pair.Offset.{offsetMinutes};
-ghost use Rattle.ion.specs.Calls.Stages.{withOffset};
-ghost use Rattle.ion.specs.Calls.Build.{buildOf};
+ghost use Rattle.ion.specs.Pair.Offset.{offset_minutes};
+ghost use Rattle.ion.specs.Calls.Stages.{with_offset};
+ghost use Rattle.ion.specs.Calls.Build.{build_of};
 
 use crate::HasOffset;
 use crate::building::build;
@@ -11,7 +11,7 @@ use ion::{BuilderFields, BuilderOffset, Built};
 
 // The fields are those of the local time of the offset.
 pub(crate) fn from_local(fields: BuilderFields, minutes: i32) -> HasOffset
-    ensures { result.fields ≡ withOffset fields (BuilderOffset.FromLocalFields (offsetMinutes minutes)) }
+    ensures { result.fields ≡ with_offset fields (BuilderOffset.FromLocalFields (offset_minutes minutes)) }
 {
     let known = OffsetMinutes::new(minutes);
     HasOffset {
@@ -24,7 +24,7 @@ pub(crate) fn from_local(fields: BuilderFields, minutes: i32) -> HasOffset
 
 // The fields are those of UTC, which `build` moves to the local time of the offset.
 pub(crate) fn from_utc(fields: BuilderFields, minutes: i32) -> HasOffset
-    ensures { result.fields ≡ withOffset fields (BuilderOffset.FromUtcFields (offsetMinutes minutes)) }
+    ensures { result.fields ≡ with_offset fields (BuilderOffset.FromUtcFields (offset_minutes minutes)) }
 {
     let known = OffsetMinutes::new(minutes);
     HasOffset {
@@ -37,7 +37,7 @@ pub(crate) fn from_utc(fields: BuilderFields, minutes: i32) -> HasOffset
 
 impl HasOffset {
     pub fn build(self) -> Built
-        ensures { result ≡ buildOf self.fields }
+        ensures { result ≡ build_of self.fields }
     {
         build(self.fields)
     }

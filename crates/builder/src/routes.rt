@@ -2,8 +2,8 @@
 ghost use Rattle.std.specs.Prelude.{◌≡◌};
 ghost use Rattle.ion.specs.Pair.Offset.{WithinDay};
 ghost use Rattle.ion.specs.Pair.Word.{InRange};
-ghost use Rattle.ion.specs.Calls.Build.{precisionNumber, isDay, isYear, givenTime, movedTime};
-ghost use Rattle.ion.specs.Calls.Build.{firstOf, localChecks, utcChecks, packedOf, pairAt, acceptedBuild, buildAnswer};
+ghost use Rattle.ion.specs.Calls.Build.{precision_number, is_day, is_year, given_time, moved_time};
+ghost use Rattle.ion.specs.Calls.Build.{first_of, local_checks, utc_checks, packed_of, pair_at, accepted_build, build_answer};
 ghost use Rattle.ion.specs.Calls.Accepted.{InBounds};
 
 use ion::offset::{Offset, OffsetMinutes};
@@ -12,7 +12,7 @@ use ion::{
 };
 
 fn precision_number(p: TimestampPrecision) -> u32
-    ensures { result ≡ precisionNumber p }
+    ensures { result ≡ precision_number p }
 {
     match p {
         TimestampPrecision::Year => 0,
@@ -25,8 +25,8 @@ fn precision_number(p: TimestampPrecision) -> u32
 
 // The packed pair of the local fields.
 fn finish(f: BuilderFields, local: DateTime, o: Offset) -> Built
-    requires { WithinDay o × InRange (packedOf f local o) }
-    ensures { result ≡ acceptedBuild (pairAt f local o) }
+    requires { WithinDay o × InRange (packed_of f local o) }
+    ensures { result ≡ accepted_build (pair_at f local o) }
 {
     let precision = f.precision;
     let fields = Fields {
@@ -51,7 +51,7 @@ fn finish(f: BuilderFields, local: DateTime, o: Offset) -> Built
 
 // Whether there is such a calendar day.
 fn is_day(f: BuilderFields) -> bool
-    ensures { result ≡ isDay f }
+    ensures { result ≡ is_day f }
 {
     calendar::is_date(Date {
         year: f.year,
@@ -62,14 +62,14 @@ fn is_day(f: BuilderFields) -> bool
 
 // Whether it is a local year.
 fn is_year(year: u32) -> bool
-    ensures { result ≡ isYear year }
+    ensures { result ≡ is_year year }
 {
     (1 <= year) & (year <= 9999)
 }
 
 // The fields to the minute, as they were given.
 fn given_time(f: BuilderFields) -> DateTime
-    ensures { result ≡ givenTime f }
+    ensures { result ≡ given_time f }
 {
     DateTime {
         year: f.year,
@@ -83,7 +83,7 @@ fn given_time(f: BuilderFields) -> DateTime
 // From local fields.
 pub(crate) fn from_fields(f: BuilderFields, o: Offset) -> Built
     requires { InBounds f × WithinDay o }
-    ensures { result ≡ buildAnswer (firstOf (localChecks f)) (pairAt f (givenTime f) o) }
+    ensures { result ≡ build_answer (first_of (local_checks f)) (pair_at f (given_time f) o) }
 {
     let year = is_year(f.year);
     let day = is_day(f);
@@ -99,7 +99,7 @@ pub(crate) fn from_fields(f: BuilderFields, o: Offset) -> Built
 // From UTC fields, which an offset moves to local ones.
 pub(crate) fn from_utc_fields(f: BuilderFields, m: OffsetMinutes) -> Built
     requires { InBounds f × WithinDay (Offset.Known m) }
-    ensures { result ≡ buildAnswer (firstOf (utcChecks f m)) (pairAt f (movedTime f m) (Offset.Known m)) }
+    ensures { result ≡ build_answer (first_of (utc_checks f m)) (pair_at f (moved_time f m) (Offset.Known m)) }
 {
     if !is_day(f) {
         return Built::refused(refusal::NO_DAY);

@@ -7,90 +7,91 @@ use native.Mathlib.Decide.{dec_le, dec_lt}
 use native.Mathlib.Omega.{arith}
 use lib.Dec.{leb}
 use borrow.Author.Tests.{le-leb, lt-leb}
-use Rattle.places.proofs.Decides.{Decides, le-decides, ◌and◌}
-use Rattle.ion.specs.Calendar.Dates.{isLeap, monthLengthOf, monthLength, yearLength, sumBelow, monthStart, dayNumber, IsDate, Earlier}
-use Rattle.ion.specs.Calendar.Dates.{isMonth, isDate}
+use Rattle.places.proofs.Decides.{Decides, le_decides, ◌and◌}
+use Rattle.ion.specs.Calendar.Dates.{is_leap, month_length_of, month_length, year_length, sum_below}
+use Rattle.ion.specs.Calendar.Dates.{month_start, day_number, IsDate, Earlier}
+use Rattle.ion.specs.Calendar.Dates.{is_month, is_date}
 use Rattle.ion.specs.declared.Date.{Date}
-use Rattle.calendar.proofs.Sums.{sum-past}
-use Rattle.calendar.proofs.Years.{leapsBefore, leap-day-le, year-start, year-start-below}
-use Rattle.calendar.proofs.Months.{month-decides, no-month, month-least, month-from-one, month-to-twelve, month-most, months-year}
+use Rattle.calendar.proofs.Sums.{sum_past}
+use Rattle.calendar.proofs.Years.{leaps_before, leap_day_le, year_start_lem, year_start_below}
+use Rattle.calendar.proofs.Months.{month_decides, no_month, month_least, month_from_one, month_to_twelve, month_most, months_year}
 
 -- ---- what is a date
 
 -- a date has a month from 1 to 12, and a day of it up to 31
 module _ (t : Date) (p : IsDate t) where
-  has-day : 0 < monthLength t.year t.month
-  has-day = omega (arith, p.first, p.last)
+  has_day_lem : 0 < month_length t.year t.month
+  has_day_lem = omega (arith, p.first, p.last)
 
-  pub month-low : 1 ≤ t.month
-  month-low = month-from-one (isLeap t.year) t.month has-day
+  pub month_low : 1 ≤ t.month
+  month_low = month_from_one (is_leap t.year) t.month has_day_lem
 
-  pub month-of : t.month ≤ 12
-  month-of = month-to-twelve (isLeap t.year) t.month has-day
+  pub month_of_lem : t.month ≤ 12
+  month_of_lem = month_to_twelve (is_leap t.year) t.month has_day_lem
 
-  pub day-of : t.day ≤ 31
-  day-of = omega (arith, p.last, month-most (isLeap t.year) t.month)
+  pub day_of_lem : t.day ≤ 31
+  day_of_lem = omega (arith, p.last, month_most (is_leap t.year) t.month)
 
 -- a date that passed the test, and the test of a date
 module _ (t : Date) where
   -- those of its month
   abbrev days : ℕ
-  days = monthLength t.year t.month
+  days = month_length t.year t.month
 
-  tested : Decides (isDate t) ((1 ≤ t.day) × (t.day ≤ days))
-  tested = le-decides 1 t.day and le-decides t.day days
+  tested : Decides (is_date t) ((1 ≤ t.day) × (t.day ≤ days))
+  tested = le_decides 1 t.day and le_decides t.day days
 
-  pub is-date : isDate t ≡ true → IsDate t
-  is-date e = let b = tested.0 e in record { first = b.0; last = b.1 }
+  pub is_date_lem : is_date t ≡ true → IsDate t
+  is_date_lem e = let b = tested.0 e in record { first = b.0; last = b.1 }
 
-  pub date-is : IsDate t → isDate t ≡ true
-  date-is p = tested.1 (p.first, p.last)
+  pub date_is : IsDate t → is_date t ≡ true
+  date_is p = tested.1 (p.first, p.last)
 
 -- a month that there is not has no day
-pub no-day : (t : Date) → isMonth t.month ≡ false → isDate t ≡ false
-no-day t e = go (dec_le 1 t.day)
+pub no_day_lem : (t : Date) → is_month t.month ≡ false → is_date t ≡ false
+no_day_lem t e = go (dec_le 1 t.day)
   where
     none : days t ≡ 0
-    none = no-month (isLeap t.year) t.month e
+    none = no_month (is_leap t.year) t.month e
 
-    go : Dec (1 ≤ t.day) → isDate t ≡ false
+    go : Dec (1 ≤ t.day) → is_date t ≡ false
     go (yes h) = let l : days t < t.day = omega (arith, none) in simp (lt-leb t.day (days t) l, and-false)
     go (no h) = let l : t.day < 1 = omega arith in simp (lt-leb 1 t.day l)
 
 -- up to day 28 every month has it
-pub low-day : (t : Date) → t.day ≤ 28 → (isMonth t.month && leb 1 t.day) ≡ isDate t
-low-day t k = go (isMonth t.month) refl
+pub low_day : (t : Date) → t.day ≤ 28 → (is_month t.month && leb 1 t.day) ≡ is_date t
+low_day t k = go (is_month t.month) refl
   where
-    go : (b : Bool) → isMonth t.month ≡ b → (b && leb 1 t.day) ≡ isDate t
+    go : (b : Bool) → is_month t.month ≡ b → (b && leb 1 t.day) ≡ is_date t
     go true e =
-        let m = (month-decides t.month).0 e in
-        let l : t.day ≤ days t = omega (arith, month-least (isLeap t.year) t.month m.0 m.1) in
+        let m = (month_decides t.month).0 e in
+        let l : t.day ≤ days t = omega (arith, month_least (is_leap t.year) t.month m.0 m.1) in
         simp (le-leb t.day (days t) l, and-true)
-    go false e = sym (no-day t e)
+    go false e = sym (no_day_lem t e)
 
 -- every year has a first day
-pub first-day-is : (y : ℕ) → isDate (record { year = y; month = 1; day = 1 }) ≡ true
-unfolding monthLengthOf
-first-day-is y = refl
+pub first_day_is : (y : ℕ) → is_date (record { year = y; month = 1; day = 1 }) ≡ true
+unfolding month_length_of
+first_day_is y = refl
 
 -- ---- the number
 
 -- a date lies in its month, and in its year
-in-month : (t : Date) → IsDate t → {m : ℕ} → t.month < m → monthStart t.year t.month + (t.day - 1) < monthStart t.year m
-in-month t p {m} h = omega (arith, sum-past (monthLengthOf (isLeap t.year)) t.month m h)
+in_month : (t : Date) → IsDate t → {m : ℕ} → t.month < m → month_start t.year t.month + (t.day - 1) < month_start t.year m
+in_month t p {m} h = omega (arith, sum_past (month_length_of (is_leap t.year)) t.month m h)
 
-pub in-year : (t : Date) → IsDate t → monthStart t.year t.month + (t.day - 1) < yearLength t.year
-in-year t p = omega (arith, in-month t p {m = 13} (omega (arith, month-of t p)), months-year (isLeap t.year))
+pub in_year_lem : (t : Date) → IsDate t → month_start t.year t.month + (t.day - 1) < year_length t.year
+in_year_lem t p = omega (arith, in_month t p {m = 13} (omega (arith, month_of_lem t p)), months_year (is_leap t.year))
 
 -- the number grows strictly with the date
-pub day-number-mono : (s t : Date) → IsDate s → IsDate t → Earlier s t → dayNumber s < dayNumber t
-day-number-mono s t p q (inl l) = omega (arith, in-year s p, sum-past yearLength s.year t.year l)
-day-number-mono s t p q (inr (e, inl l)) = rw (← e) (omega (arith, in-month s p l))
-day-number-mono s t p q (inr (e, inr (f, l))) = rw (← e, ← f) (omega arith)
+pub day_number_mono : (s t : Date) → IsDate s → IsDate t → Earlier s t → day_number s < day_number t
+day_number_mono s t p q (inl l) = omega (arith, in_year_lem s p, sum_past year_length s.year t.year l)
+day_number_mono s t p q (inr (e, inl l)) = rw (← e) (omega (arith, in_month s p l))
+day_number_mono s t p q (inr (e, inr (f, l))) = rw (← e, ← f) (omega arith)
 
 -- of two dates one is earlier, or they are the same
-pub date-order : (s t : Date) → Earlier s t ⊎ ((s ≡ t) ⊎ Earlier t s)
-date-order s t = go (order s.year t.year) (order s.month t.month) (order s.day t.day)
+pub date_order : (s t : Date) → Earlier s t ⊎ ((s ≡ t) ⊎ Earlier t s)
+date_order s t = go (order s.year t.year) (order s.month t.month) (order s.day t.day)
   where
     Order : ℕ → ℕ → Type 0
     Order a b = (a < b) ⊎ ((a ≡ b) ⊎ (b < a))
@@ -113,28 +114,28 @@ date-order s t = go (order s.year t.year) (order s.month t.month) (order s.day t
     go (inr (inl e)) (inr (inl f)) (inr (inl g)) = inr (inl (λ i. record { year = e i; month = f i; day = g i }))
 
 -- the number tells the date
-pub day-number-inj : (s t : Date) → IsDate s → IsDate t → dayNumber s ≡ dayNumber t → s ≡ t
-day-number-inj s t p q e = go (date-order s t)
+pub day_number_inj : (s t : Date) → IsDate s → IsDate t → day_number s ≡ day_number t → s ≡ t
+day_number_inj s t p q e = go (date_order s t)
   where
     go : Earlier s t ⊎ ((s ≡ t) ⊎ Earlier t s) → s ≡ t
-    go (inl h) = absurd (omega (arith, day-number-mono s t p q h))
+    go (inl h) = absurd (omega (arith, day_number_mono s t p q h))
     go (inr (inl h)) = h
-    go (inr (inr h)) = absurd (omega (arith, day-number-mono t s q p h))
+    go (inr (inr h)) = absurd (omega (arith, day_number_mono t s q p h))
 
 -- from year 1 on there is a year before
-pub after-year-zero : (t : Date) → 1 ≤ t.year → 366 ≤ dayNumber t
-unfolding sumBelow isLeap
-after-year-zero t h = omega (arith, sum-past yearLength 0 t.year h)
+pub after_year_zero : (t : Date) → 1 ≤ t.year → 366 ≤ day_number t
+unfolding sum_below is_leap
+after_year_zero t h = omega (arith, sum_past year_length 0 t.year h)
 
 -- up to the year 10000
-pub day-number-below : (t : Date) → IsDate t → t.year ≤ 10000 → dayNumber t < 3652791
-unfolding leapsBefore
-day-number-below t p h = omega (arith, in-year t p, leap-day-le (isLeap t.year), year-start t.year)
+pub day_number_below : (t : Date) → IsDate t → t.year ≤ 10000 → day_number t < 3652791
+unfolding leaps_before
+day_number_below t p h = omega (arith, in_year_lem t p, leap_day_le (is_leap t.year), year_start_lem t.year)
 
 -- ---- lists of laws, for the code
 
 -- a date's month is one, and its number is small
-pub ruleset dates = (month-low, month-of, in-year, year-start-below, leap-day-le)
+pub ruleset dates = (month_low, month_of_lem, in_year_lem, year_start_below, leap_day_le)
 
 -- a day that there is, or is not
-pub ruleset days_there = (low-day, no-day)
+pub ruleset days_there = (low_day, no_day_lem)

@@ -7,18 +7,18 @@ use native.Mathlib.Omega.{arith}
 use lib.Dec.{lit<}
 use lib.IntN.{ℤ, pos, negsuc, nat_abs, ◌+ℤ◌}
 use borrow.Author.Tests.{lt-ltb, le-ltb}
-use Rattle.integers.specs.Floor.{floorDiv}
-use Rattle.integers.proofs.Parts.{up, down, apart, natAbs-parts, add-parts, floor-div-parts}
-use Rattle.ion.specs.Calendar.Dates.{prevDay}
-use Rattle.ion.specs.Calendar.Shift.{IsDateTime, dateOf, minuteNumber, repeat, addDays, shifted}
+use Rattle.integers.specs.Floor.{floor_div}
+use Rattle.integers.proofs.Parts.{up, down, apart, nat_abs_parts, add_parts, floor_div_parts}
+use Rattle.ion.specs.Calendar.Dates.{prev_day}
+use Rattle.ion.specs.Calendar.Shift.{IsDateTime, date_of, minute_number, repeat, add_days, shifted}
 use Rattle.ion.specs.declared.Date.{Date}
 use Rattle.ion.specs.declared.DateTime.{DateTime}
-use Rattle.calendar.proofs.Dates.{after-year-zero}
+use Rattle.calendar.proofs.Dates.{after_year_zero}
 
-prev-in-year-zero : (t : Date) → t.year ≡ 0 → (prevDay t).year ≡ 0
-prev-in-year-zero t e = go (dec_lt 1 t.day) (dec_lt 1 t.month)
+prev_in_year_zero : (t : Date) → t.year ≡ 0 → (prev_day t).year ≡ 0
+prev_in_year_zero t e = go (dec_lt 1 t.day) (dec_lt 1 t.month)
   where
-    go : Dec (1 < t.day) → Dec (1 < t.month) → (prevDay t).year ≡ 0
+    go : Dec (1 < t.day) → Dec (1 < t.month) → (prev_day t).year ≡ 0
     go (yes h) k = simp (lt-ltb _ _ h) e
     go (no h) (yes k) = let l : t.day ≤ 1 = omega arith in simp (le-ltb _ _ l, lt-ltb _ _ k) e
     go (no h) (no k) =
@@ -26,28 +26,28 @@ prev-in-year-zero t e = go (dec_lt 1 t.day) (dec_lt 1 t.month)
         let m : t.month ≤ 1 = omega arith in
         simp (le-ltb _ _ l, le-ltb _ _ m) (omega (arith, e))
 
-back-in-year-zero : (t : Date) (n : ℕ) → t.year ≡ 0 → (repeat prevDay n t).year ≡ 0
-back-in-year-zero t zero e = e
-back-in-year-zero t (suc n) e = prev-in-year-zero (repeat prevDay n t) (back-in-year-zero t n e)
+back_in_year_zero : (t : Date) (n : ℕ) → t.year ≡ 0 → (repeat prev_day n t).year ≡ 0
+back_in_year_zero t zero e = e
+back_in_year_zero t (suc n) e = prev_in_year_zero (repeat prev_day n t) (back_in_year_zero t n e)
 
-no-days-on : (t : Date) (z : ℤ) → up z ≡ 0 → t.year ≡ 0 → (addDays t z).year ≡ 0
-no-days-on t (pos zero) h e = e
-no-days-on t (pos (suc n)) h e = absurd (omega arith)
-no-days-on t (negsuc n) h e = back-in-year-zero t (suc n) e
+no_days_on : (t : Date) (z : ℤ) → up z ≡ 0 → t.year ≡ 0 → (add_days t z).year ≡ 0
+no_days_on t (pos zero) h e = e
+no_days_on t (pos (suc n)) h e = absurd (omega arith)
+no_days_on t (negsuc n) h e = back_in_year_zero t (suc n) e
 
 -- a time of year 0 moved by no minutes, or back by however many
-pub year-zero-back : (t : DateTime) (z : ℤ) → t.hour < 24 → t.minute < 60 → t.year ≡ 0 → up z ≡ 0 → (shifted t z).year ≡ 0
-year-zero-back t z h m e k =
+pub year_zero_back : (t : DateTime) (z : ℤ) → t.hour < 24 → t.minute < 60 → t.year ≡ 0 → up z ≡ 0 → (shifted t z).year ≡ 0
+year_zero_back t z h m e k =
     let total = pos (t.hour * 60 + t.minute) +ℤ z in
-    let d = floor-div-parts total 1440 (lit< tt) in
-    no-days-on (dateOf t) (floorDiv total 1440) (omega (arith, d, add-parts (pos (t.hour * 60 + t.minute)) z, apart total)) e
+    let d = floor_div_parts total 1440 (lit< tt) in
+    no_days_on (date_of t) (floor_div total 1440) (omega (arith, d, add_parts (pos (t.hour * 60 + t.minute)) z, apart total)) e
 
-pub moved-room : (t : DateTime) (z : ℤ) → IsDateTime t → nat_abs z < 1440 → 1 ≤ (shifted t z).year → down z ≤ minuteNumber t
-moved-room t z p w y = go (dec_le (down z) (minuteNumber t)) (dec_le 1 t.year)
+pub moved_room : (t : DateTime) (z : ℤ) → IsDateTime t → nat_abs z < 1440 → 1 ≤ (shifted t z).year → down z ≤ minute_number t
+moved_room t z p w y = go (dec_le (down z) (minute_number t)) (dec_le 1 t.year)
   where
-    go : Dec (down z ≤ minuteNumber t) → Dec (1 ≤ t.year) → down z ≤ minuteNumber t
+    go : Dec (down z ≤ minute_number t) → Dec (1 ≤ t.year) → down z ≤ minute_number t
     go (yes h) k = h
-    go (no n) (yes k) = omega (arith, after-year-zero (dateOf t) k, natAbs-parts z)
+    go (no n) (yes k) = omega (arith, after_year_zero (date_of t) k, nat_abs_parts z)
     go (no n) (no k) =
         let e : t.year ≡ 0 = omega arith in
-        absurd (omega (arith, year-zero-back t z p.hours p.minutes e (omega (arith, apart z))))
+        absurd (omega (arith, year_zero_back t z p.hours p.minutes e (omega (arith, apart z))))

@@ -1,14 +1,14 @@
 // The number of a day, counted from 0000-01-01, and the days after and before it.
 ghost use Rattle.std.specs.Prelude.{◌≡◌, ◌≤◌};
-ghost use Rattle.ion.specs.Calendar.Dates.{IsDate, yearStart, monthStart, dayNumber, nextDay, prevDay};
+ghost use Rattle.ion.specs.Calendar.Dates.{IsDate, year_start, month_start, day_number, next_day, prev_day};
 
 use crate::month::{is_leap, month_length};
 use ion::Date;
 
 // The number of 1 January, in closed form: years of 365 days, and a day for each leap year before.
-#[tactic(auto, using(crate::proofs::Years::year_starts), unfolding(crate::proofs::Years::leapsBefore))]
+#[tactic(auto, using(crate::proofs::Years::year_starts), unfolding(crate::proofs::Years::leaps_before))]
 pub fn year_start(year: u32) -> u64
-    ensures { result ≡ yearStart year }
+    ensures { result ≡ year_start year }
 {
     let y = year as u64;
     let centuries = (y + 99) / 100;
@@ -22,7 +22,7 @@ const MONTH_STARTS: [u16; 13] = [0, 0, 31, 59, 90, 120, 151, 181, 212, 243, 273,
 #[tactic(auto, using(crate::proofs::Months::month_starts))]
 pub fn month_start(year: u32, month: u32) -> u64
     requires { month ≤ 12 }
-    ensures { result ≡ monthStart year month }
+    ensures { result ≡ month_start year month }
 {
     let start = MONTH_STARTS[month as usize] as u64;
     if month <= 2 {
@@ -37,7 +37,7 @@ pub fn month_start(year: u32, month: u32) -> u64
 #[tactic(auto, using(crate::proofs::Dates::dates))]
 pub fn day_number(date: Date) -> u64
     requires { IsDate date }
-    ensures { result ≡ dayNumber date }
+    ensures { result ≡ day_number date }
 {
     let start = year_start(date.year);
     let before = month_start(date.year, date.month);
@@ -47,7 +47,7 @@ pub fn day_number(date: Date) -> u64
 #[tactic(auto, using(crate::proofs::Dates::dates))]
 pub fn next_day(date: Date) -> Date
     requires { (date.year ≤ 10000) × IsDate date }
-    ensures { result ≡ nextDay date }
+    ensures { result ≡ next_day date }
 {
     let days = month_length(date.year, date.month);
     if date.day < days {
@@ -75,7 +75,7 @@ pub fn next_day(date: Date) -> Date
 #[tactic(auto, using(crate::proofs::Dates::dates))]
 pub fn prev_day(date: Date) -> Date
     requires { (date.year ≤ 10000) × IsDate date }
-    ensures { result ≡ prevDay date }
+    ensures { result ≡ prev_day date }
 {
     if 1 < date.day {
         return Date {

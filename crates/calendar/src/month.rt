@@ -1,12 +1,12 @@
 // Leap years, the lengths of months, and the days that there are.
 ghost use Rattle.std.specs.Prelude.{◌≡◌, ◌≤◌};
-ghost use Rattle.ion.specs.Calendar.Dates.{isLeap, isMonth, monthLength, daysInMonth, isDate};
+ghost use Rattle.ion.specs.Calendar.Dates.{is_leap, is_month, month_length, days_in_month, is_date};
 
 use ion::Date;
 
-#[tactic(auto, unfolding(ion::specs::Calendar::Dates::isLeap))]
+#[tactic(auto, unfolding(ion::specs::Calendar::Dates::is_leap))]
 pub fn is_leap(year: u32) -> bool
-    ensures { result ≡ isLeap year }
+    ensures { result ≡ is_leap year }
 {
     if year % 4 != 0 {
         return false;
@@ -21,7 +21,7 @@ pub fn is_leap(year: u32) -> bool
 const MONTH_LENGTHS: [u8; 13] = [0, 31, 28, 31, 30, 31, 30, 31, 31, 30, 31, 30, 31];
 
 fn is_month(month: u32) -> bool
-    ensures { result ≡ isMonth month }
+    ensures { result ≡ is_month month }
 {
     (1 <= month) & (month <= 12)
 }
@@ -30,7 +30,7 @@ fn is_month(month: u32) -> bool
 #[tactic(auto, using(crate::proofs::Months::lengths))]
 pub(crate) fn month_length(year: u32, month: u32) -> u32
     requires { (1 ≤ month) × (month ≤ 12) }
-    ensures { result ≡ monthLength year month }
+    ensures { result ≡ month_length year month }
 {
     if month != 2 {
         return MONTH_LENGTHS[month as usize] as u32;
@@ -42,9 +42,9 @@ pub(crate) fn month_length(year: u32, month: u32) -> u32
 }
 
 // What a date picker is told: 0 for a month outside 1 to 12 and for a year above 10000.
-#[tactic(auto, unfolding(ion::specs::Calendar::Dates::daysInMonth))]
+#[tactic(auto, unfolding(ion::specs::Calendar::Dates::days_in_month))]
 pub fn days_in_month(year: u32, month: u32) -> u32
-    ensures { result ≡ daysInMonth year month }
+    ensures { result ≡ days_in_month year month }
 {
     if is_month(month) & (year <= 10000) {
         return month_length(year, month);
@@ -55,7 +55,7 @@ pub fn days_in_month(year: u32, month: u32) -> u32
 // Whether there is such a day. Every month has 28 days: up to there the month's length is not asked.
 #[tactic(auto, using(crate::proofs::Dates::days_there))]
 pub fn is_date(date: Date) -> bool
-    ensures { result ≡ isDate date }
+    ensures { result ≡ is_date date }
 {
     let month = date.month;
     let day = date.day;

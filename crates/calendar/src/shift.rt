@@ -1,8 +1,8 @@
 // Dates and times moved by a signed number of minutes.
 ghost use Rattle.std.specs.Prelude.{◌≡◌, ◌≤◌, ◌<◌, nat_abs};
-ghost use Rattle.integers.specs.Floor.{floorDiv, floorMod};
+ghost use Rattle.integers.specs.Floor.{floor_div, floor_mod};
 ghost use Rattle.ion.specs.Calendar.Dates.{IsDate};
-ghost use Rattle.ion.specs.Calendar.Shift.{IsDateTime, addDays, atMinute, shifted};
+ghost use Rattle.ion.specs.Calendar.Shift.{IsDateTime, add_days, at_minute, shifted};
 
 use crate::day::{next_day, prev_day};
 use ion::offset::OffsetMinutes;
@@ -10,7 +10,7 @@ use ion::{Date, DateTime};
 
 // The whole days in a number of minutes, rounded down.
 pub fn floor_days(minutes: i32) -> i32
-    ensures { result ≡ floorDiv minutes 1440 }
+    ensures { result ≡ floor_div minutes 1440 }
 {
     let days = minutes / 1440;
     if minutes % 1440 < 0 {
@@ -21,7 +21,7 @@ pub fn floor_days(minutes: i32) -> i32
 
 // The minutes past the last midnight.
 pub fn minute_of_day(minutes: i32) -> u32
-    ensures { result ≡ floorMod minutes 1440 }
+    ensures { result ≡ floor_mod minutes 1440 }
 {
     let rest = minutes % 1440;
     if rest < 0 {
@@ -34,7 +34,7 @@ pub fn minute_of_day(minutes: i32) -> u32
 #[tactic(auto, using(crate::proofs::Shifts::back))]
 fn add_days(date: Date, days: i32) -> Date
     requires { (nat_abs days ≤ 1) × (date.year ≤ 10000) × IsDate date }
-    ensures { result ≡ addDays date days }
+    ensures { result ≡ add_days date days }
 {
     if days < 0 {
         return prev_day(date);
@@ -47,8 +47,8 @@ fn add_days(date: Date, days: i32) -> Date
 
 // The date and time a number of minutes after a date's midnight, or before it.
 fn from_midnight(date: Date, minutes: i32) -> DateTime
-    requires { (nat_abs (floorDiv minutes 1440) ≤ 1) × (date.year ≤ 10000) × IsDate date }
-    ensures { result ≡ atMinute (addDays date (floorDiv minutes 1440)) (floorMod minutes 1440) }
+    requires { (nat_abs (floor_div minutes 1440) ≤ 1) × (date.year ≤ 10000) × IsDate date }
+    ensures { result ≡ at_minute (add_days date (floor_div minutes 1440)) (floor_mod minutes 1440) }
 {
     let moved = add_days(date, floor_days(minutes));
     let time = minute_of_day(minutes);

@@ -1,6 +1,6 @@
 // Fractions given as a decimal.
 ghost use Rattle.std.specs.Prelude.{◌≡◌, ◌/◌, ◌^◌, min};
-ghost use Rattle.ion.specs.Pair.Fraction.{capped, digitsOf, attosecondsOf, belowZero, decimal};
+ghost use Rattle.ion.specs.Pair.Fraction.{capped, digits_of, attoseconds_of, below_zero, decimal};
 
 use crate::powers::power;
 use crate::units::{cap, scaled};
@@ -8,7 +8,7 @@ use ion::{Decimal, Fraction, MAX_ATTOSECONDS};
 
 // Minus the exponent, or 0 where that is 0 or more.
 fn digits_of(exponent: i64) -> u64
-    ensures { result ≡ digitsOf exponent }
+    ensures { result ≡ digits_of exponent }
 {
     if exponent < 0 {
         return integers::unsigned_abs(exponent);
@@ -28,7 +28,7 @@ fn quotient(n: u64, digits: u64) -> u64
 
 // n times 10^-digits, in attoseconds.
 fn attoseconds_of(n: u64, digits: u64) -> u64
-    ensures { result ≡ capped (attosecondsOf n digits) }
+    ensures { result ≡ capped (attoseconds_of n digits) }
 {
     if digits <= 18 {
         return scaled(n, digits);
@@ -37,7 +37,7 @@ fn attoseconds_of(n: u64, digits: u64) -> u64
 }
 
 fn is_below_zero(d: Decimal) -> bool
-    ensures { result ≡ belowZero d }
+    ensures { result ≡ below_zero d }
 {
     d.negative & (d.coefficient != 0)
 }

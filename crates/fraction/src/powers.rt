@@ -1,6 +1,6 @@
 // The powers of ten, 10^0 to 10^18, and attoseconds cut to a number of digits.
 ghost use Rattle.std.specs.Prelude.{◌≡◌, ◌^◌, min};
-ghost use Rattle.ion.specs.Pair.Fraction.{scale, cutTo};
+ghost use Rattle.ion.specs.Pair.Fraction.{scale, cut_to};
 
 use ion::MAX_ATTOSECONDS;
 
@@ -52,7 +52,7 @@ pub fn power(n: u64) -> u64
 
 // Attoseconds cut toward zero to a number of digits.
 pub fn cut(attoseconds: u64, digits: u64) -> u64
-    ensures { result ≡ cutTo digits attoseconds }
+    ensures { result ≡ cut_to digits attoseconds }
 {
     let s = scale(digits);
     attoseconds / s * s

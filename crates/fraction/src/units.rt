@@ -1,6 +1,6 @@
 // Fractions given as a number of units: milliseconds, microseconds, nanoseconds.
 ghost use Rattle.std.specs.Prelude.{◌≡◌, ◌*◌};
-ghost use Rattle.ion.specs.Pair.Fraction.{scale, capped, cappedFraction, milliseconds, microseconds, nanoseconds, nanosecondsTo};
+ghost use Rattle.ion.specs.Pair.Fraction.{scale, capped, capped_fraction, milliseconds, microseconds, nanoseconds, nanoseconds_to};
 
 use crate::powers::{NANOSECOND, cut, power, scale};
 use ion::{Fraction, MAX_ATTOSECONDS};
@@ -27,7 +27,7 @@ pub(crate) fn scaled(n: u64, digits: u64) -> u64
 }
 
 fn units(n: u32, digits: u64) -> Fraction
-    ensures { result ≡ cappedFraction (n * scale digits) digits }
+    ensures { result ≡ capped_fraction (n * scale digits) digits }
 {
     Fraction {
         attoseconds: scaled(n as u64, digits),
@@ -55,7 +55,7 @@ pub fn from_nanoseconds(n: u32) -> Fraction
 
 // Nanoseconds cut toward zero to a number of digits.
 pub fn from_nanoseconds_and_precision(n: u32, digits: u32) -> Fraction
-    ensures { result ≡ nanosecondsTo n digits }
+    ensures { result ≡ nanoseconds_to n digits }
 {
     let kept = digits as u64;
     Fraction {

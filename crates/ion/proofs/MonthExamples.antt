@@ -4,13 +4,13 @@ use Prim.Native.Nat.{ℕ}
 use mathlib.Core.List.{List, [], ◌∷◌, map}
 use mathlib.Core.Path.{◌≡◌, refl}
 use lib.IntN.{ℤ, pos, negsuc}
-use Rattle.ion.specs.Calendar.Dates.{isLeap, monthLengthOf, daysInMonth}
+use Rattle.ion.specs.Calendar.Dates.{is_leap, month_length_of, days_in_month}
 use Rattle.ion.specs.Calendar.Shift.{shifted}
-use Rattle.ion.specs.Pair.Offset.{offsetMinutes}
-use Rattle.ion.specs.Pair.Pair.{wordIn}
-use Rattle.ion.specs.Pair.Word.{wordOf}
-use Rattle.ion.specs.Calls.Build.{buildNumber, buildPair, buildOf}
-use Rattle.ion.specs.Calls.Stages.{withYear, withMonth, withDay, withHourAndMinute, withOffset}
+use Rattle.ion.specs.Pair.Offset.{offset_minutes}
+use Rattle.ion.specs.Pair.Pair.{word_in}
+use Rattle.ion.specs.Pair.Word.{word_of}
+use Rattle.ion.specs.Calls.Build.{build_number, build_pair, build_of}
+use Rattle.ion.specs.Calls.Stages.{with_year, with_month, with_day, with_hour_and_minute, with_offset}
 use Rattle.ion.specs.declared.BuilderOffset.TheVariants.{FromUtcFields}
 
 -- ---- what a row states
@@ -31,8 +31,8 @@ row g s = record { given = g; stated = s }
 
 -- ---- what the definitions give
 
-inYear : ℕ → List ℕ → Answer
-inYear y ms = lengths (map (daysInMonth y) ms)
+in_year : ℕ → List ℕ → Answer
+in_year y ms = lengths (map (days_in_month y) ms)
 
 -- no month; the first, February and the last; no month
 edges : List ℕ
@@ -47,26 +47,26 @@ moved y mo d h mi z =
     time t.year t.month t.day t.hour t.minute
 
 -- fields in UTC with an offset
-fromUtc : ℕ → ℕ → ℕ → ℕ → ℕ → ℤ → Answer
-fromUtc y mo d h mi z =
-    let f = withHourAndMinute (withDay (withMonth (withYear y) mo) d) h mi in
-    let b = buildOf (withOffset f (FromUtcFields (offsetMinutes z))) in
-    built b.number (wordIn b.stamp)
+from_utc : ℕ → ℕ → ℕ → ℕ → ℕ → ℤ → Answer
+from_utc y mo d h mi z =
+    let f = with_hour_and_minute (with_day (with_month (with_year y) mo) d) h mi in
+    let b = build_of (with_offset f (FromUtcFields (offset_minutes z))) in
+    built b.number (word_in b.stamp)
 
 -- ---- the table
 
-pub monthRows : List Row
-monthRows =
-    row (inYear 0 edges) (lengths (0 ∷ 31 ∷ 29 ∷ 31 ∷ 0 ∷ 0 ∷ []))
-    ∷ row (inYear 1 edges) (lengths (0 ∷ 31 ∷ 28 ∷ 31 ∷ 0 ∷ 0 ∷ []))
-    ∷ row (inYear 1900 edges) (lengths (0 ∷ 31 ∷ 28 ∷ 31 ∷ 0 ∷ 0 ∷ []))
-    ∷ row (inYear 2000 edges) (lengths (0 ∷ 31 ∷ 29 ∷ 31 ∷ 0 ∷ 0 ∷ []))
-    ∷ row (inYear 9999 edges) (lengths (0 ∷ 31 ∷ 28 ∷ 31 ∷ 0 ∷ 0 ∷ []))
-    ∷ row (inYear 10000 edges) (lengths (0 ∷ 31 ∷ 29 ∷ 31 ∷ 0 ∷ 0 ∷ []))
-    ∷ row (inYear 10001 edges) (lengths (0 ∷ 0 ∷ 0 ∷ 0 ∷ 0 ∷ 0 ∷ []))
-    ∷ row (inYear 4294967295 edges) (lengths (0 ∷ 0 ∷ 0 ∷ 0 ∷ 0 ∷ 0 ∷ []))
-    ∷ row (inYear 2023 months) (lengths (31 ∷ 28 ∷ 31 ∷ 30 ∷ 31 ∷ 30 ∷ 31 ∷ 31 ∷ 30 ∷ 31 ∷ 30 ∷ 31 ∷ []))
-    ∷ row (inYear 2024 months) (lengths (31 ∷ 29 ∷ 31 ∷ 30 ∷ 31 ∷ 30 ∷ 31 ∷ 31 ∷ 30 ∷ 31 ∷ 30 ∷ 31 ∷ []))
+pub month_rows : List Row
+month_rows =
+    row (in_year 0 edges) (lengths (0 ∷ 31 ∷ 29 ∷ 31 ∷ 0 ∷ 0 ∷ []))
+    ∷ row (in_year 1 edges) (lengths (0 ∷ 31 ∷ 28 ∷ 31 ∷ 0 ∷ 0 ∷ []))
+    ∷ row (in_year 1900 edges) (lengths (0 ∷ 31 ∷ 28 ∷ 31 ∷ 0 ∷ 0 ∷ []))
+    ∷ row (in_year 2000 edges) (lengths (0 ∷ 31 ∷ 29 ∷ 31 ∷ 0 ∷ 0 ∷ []))
+    ∷ row (in_year 9999 edges) (lengths (0 ∷ 31 ∷ 28 ∷ 31 ∷ 0 ∷ 0 ∷ []))
+    ∷ row (in_year 10000 edges) (lengths (0 ∷ 31 ∷ 29 ∷ 31 ∷ 0 ∷ 0 ∷ []))
+    ∷ row (in_year 10001 edges) (lengths (0 ∷ 0 ∷ 0 ∷ 0 ∷ 0 ∷ 0 ∷ []))
+    ∷ row (in_year 4294967295 edges) (lengths (0 ∷ 0 ∷ 0 ∷ 0 ∷ 0 ∷ 0 ∷ []))
+    ∷ row (in_year 2023 months) (lengths (31 ∷ 28 ∷ 31 ∷ 30 ∷ 31 ∷ 30 ∷ 31 ∷ 31 ∷ 30 ∷ 31 ∷ 30 ∷ 31 ∷ []))
+    ∷ row (in_year 2024 months) (lengths (31 ∷ 29 ∷ 31 ∷ 30 ∷ 31 ∷ 30 ∷ 31 ∷ 31 ∷ 30 ∷ 31 ∷ 30 ∷ 31 ∷ []))
     -- back over the first of a month, and on over its last day
     ∷ row (moved 2023 3 1 0 0 (negsuc 0)) (time 2023 2 28 23 59)
     ∷ row (moved 2024 3 1 0 0 (negsuc 0)) (time 2024 2 29 23 59)
@@ -81,16 +81,16 @@ monthRows =
     ∷ row (moved 0 1 1 23 58 (negsuc 1438)) (time 0 12 31 23 59)
     ∷ row (moved 0 2 1 0 0 (negsuc 0)) (time 0 1 31 23 59)
     -- and so the local year of UTC year 0 is refused, but where it becomes 1
-    ∷ row (fromUtc 0 1 1 0 0 (negsuc 0)) (built 11 0)
-    ∷ row (fromUtc 0 1 1 23 58 (negsuc 1438)) (built 11 0)
-    ∷ row (fromUtc 0 1 1 0 0 (pos 0)) (built 11 0)
-    ∷ row (fromUtc 0 3 1 0 0 (negsuc 0)) (built 11 0)
-    ∷ row (fromUtc 0 12 31 23 59 (pos 0)) (built 11 0)
-    ∷ row (fromUtc 0 12 31 23 59 (pos 1)) (built 0 0x0004420000605a10)
-    ∷ row (fromUtc 1 1 1 0 0 (negsuc 0)) (built 11 0)
-    ∷ row (fromUtc 1 1 1 0 1 (negsuc 0)) (built 0 0x00044200006059f0)
+    ∷ row (from_utc 0 1 1 0 0 (negsuc 0)) (built 11 0)
+    ∷ row (from_utc 0 1 1 23 58 (negsuc 1438)) (built 11 0)
+    ∷ row (from_utc 0 1 1 0 0 (pos 0)) (built 11 0)
+    ∷ row (from_utc 0 3 1 0 0 (negsuc 0)) (built 11 0)
+    ∷ row (from_utc 0 12 31 23 59 (pos 0)) (built 11 0)
+    ∷ row (from_utc 0 12 31 23 59 (pos 1)) (built 0 0x0004420000605a10)
+    ∷ row (from_utc 1 1 1 0 0 (negsuc 0)) (built 11 0)
+    ∷ row (from_utc 1 1 1 0 1 (negsuc 0)) (built 0 0x00044200006059f0)
     ∷ []
 
-pub month-examples : map (λ (r : Row). r.given) monthRows ≡ map (λ (r : Row). r.stated) monthRows
-unfolding monthRows row inYear edges months moved fromUtc isLeap monthLengthOf daysInMonth wordOf buildOf buildNumber buildPair
-month-examples = refl
+pub month_examples : map (λ (r : Row). r.given) month_rows ≡ map (λ (r : Row). r.stated) month_rows
+unfolding month_rows row in_year edges months moved from_utc is_leap month_length_of days_in_month word_of build_of build_number build_pair
+month_examples = refl

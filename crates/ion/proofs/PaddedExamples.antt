@@ -5,8 +5,8 @@ use Prim.Native.String.{String}
 use mathlib.Core.List.{List, [], ◌∷◌, map}
 use mathlib.Core.Path.{◌≡◌, refl}
 use lib.ListN.{length}
-use Rattle.places.specs.Places.{placesOn, places, countIn, count, placeCount}
-use Rattle.places.specs.Padded.{paddedPlaces, lastBytes}
+use Rattle.places.specs.Places.{places_on, places, count_in, count, place_count}
+use Rattle.places.specs.Padded.{padded_places, last_bytes}
 use Rattle.ion.specs.Numbers.Padded.{padded}
 use Rattle.ion.specs.Text.Ascii.{ascii}
 
@@ -21,8 +21,8 @@ pub record PaddedRow : Type 0 where
 row : ℕ → ℕ → ℕ → ℕ → String → PaddedRow
 row w n c k t = record { width = w; number = n; bytes = c; last = k; text = t }
 
-pub paddedRows : List PaddedRow
-paddedRows =
+pub padded_rows : List PaddedRow
+padded_rows =
     -- zero, at no width, one and two
     row 0 0 1 1 "0"
     ∷ row 1 0 1 1 "0"
@@ -82,7 +82,7 @@ abbrev pub given : PaddedRow → PaddedAnswer
 given r =
     record {
       bytes = length (padded r.width r.number);
-      last = lastBytes r.last (padded r.width r.number);
+      last = last_bytes r.last (padded r.width r.number);
       remainder = padded r.last (r.number % 10 ^ r.last);
     }
 
@@ -90,6 +90,6 @@ abbrev pub stated : PaddedRow → PaddedAnswer
 stated r = record { bytes = r.bytes; last = ascii r.text; remainder = ascii r.text }
 
 -- every row
-pub padded-examples : map given paddedRows ≡ map stated paddedRows
-unfolding paddedRows row paddedPlaces places placesOn placeCount count countIn
-padded-examples = refl
+pub padded_examples : map given padded_rows ≡ map stated padded_rows
+unfolding padded_rows row padded_places places places_on place_count count count_in
+padded_examples = refl

@@ -4,14 +4,14 @@ use Prim.Native.Nat.{ℕ}
 use Prim.Native.String.{String}
 use mathlib.Core.List.{List, [], ◌∷◌, map}
 use mathlib.Core.Path.{◌≡◌, refl}
-use Rattle.places.specs.Places.{valueFrom}
-use Rattle.ion.specs.Calendar.Dates.{isLeap, monthLengthOf}
-use Rattle.ion.specs.Pair.Word.{wordOf}
-use Rattle.ion.specs.Pair.Pair.{packedPair}
-use Rattle.ion.specs.Calls.Build.{refusedBuild, acceptedBuild, buildNumber, buildPair, buildOf}
+use Rattle.places.specs.Places.{value_from}
+use Rattle.ion.specs.Calendar.Dates.{is_leap, month_length_of}
+use Rattle.ion.specs.Pair.Word.{word_of}
+use Rattle.ion.specs.Pair.Pair.{packed_pair}
+use Rattle.ion.specs.Calls.Build.{refused_build, accepted_build, build_number, build_pair, build_of}
 use Rattle.ion.specs.Text.Ascii.{ascii}
-use Rattle.ion.specs.Text.ReadText.{digitRun, digitsValue, readDigits, readMarked, signedClock, readClock, readOffset}
-use Rattle.ion.specs.Text.ReadText.{endOffset, endT, endDate, endDigits, endSecond, readText, readTextOf}
+use Rattle.ion.specs.Text.ReadText.{digit_run, digits_value, read_digits, read_marked, signed_clock, read_clock, read_offset}
+use Rattle.ion.specs.Text.ReadText.{end_offset, end_t, end_date, end_digits, end_second, read_text, read_text_of}
 use Rattle.ion.specs.Value.ReadValue.{same}
 use Rattle.ion.specs.declared.Built.{Built}
 
@@ -21,13 +21,13 @@ pub record TextRow : Type 0 where
 
 -- a text that is read as a pair, and one that is refused
 takes : String → ℕ → ℕ → TextRow
-takes t w a = record { text = t; answer = acceptedBuild (packedPair w a) }
+takes t w a = record { text = t; answer = accepted_build (packed_pair w a) }
 
 refuses : String → ℕ → TextRow
-refuses t n = record { text = t; answer = refusedBuild n }
+refuses t n = record { text = t; answer = refused_build n }
 
-pub textRows : List TextRow
-textRows =
+pub text_rows : List TextRow
+text_rows =
     -- each form
     takes "0001T" 0x0004420000000000 0
     ∷ takes "9999T" 0x9c3c420000000000 0
@@ -94,7 +94,7 @@ textRows =
     ∷ []
 
 -- every row
-pub text-examples : map (λ (r : TextRow). readTextOf (ascii r.text)) textRows ≡ map (λ (r : TextRow). r.answer) textRows
-unfolding textRows takes refuses valueFrom digitRun digitsValue readDigits readMarked signedClock readClock readOffset endOffset endT
-    endDate endDigits endSecond readText readTextOf same buildOf buildNumber buildPair wordOf isLeap monthLengthOf
-text-examples = refl
+pub text_examples : map (λ (r : TextRow). read_text_of (ascii r.text)) text_rows ≡ map (λ (r : TextRow). r.answer) text_rows
+unfolding text_rows takes refuses value_from digit_run digits_value read_digits read_marked signed_clock read_clock read_offset end_offset
+    end_t end_date end_digits end_second read_text read_text_of same build_of build_number build_pair word_of is_leap month_length_of
+text_examples = refl

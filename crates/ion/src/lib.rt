@@ -5,8 +5,8 @@ pub mod offset;
 pub mod refusal;
 
 ghost use Rattle.std.specs.Prelude.{◌≡◌};
-ghost use Rattle.ion.specs.Calls.Build.{refusedBuild};
-ghost use Rattle.ion.specs.Calls.Check.{fromLocal};
+ghost use Rattle.ion.specs.Calls.Build.{refused_build};
+ghost use Rattle.ion.specs.Calls.Check.{from_local};
 
 use offset::{Offset, OffsetMinutes, RawOffset};
 
@@ -87,7 +87,7 @@ pub enum BuilderOffset {
 impl BuilderOffset {
     // Of local fields.
     pub fn from_local(o: Offset) -> BuilderOffset
-        ensures { result ≡ fromLocal o }
+        ensures { result ≡ from_local o }
     {
         match o {
             Offset::Unknown => BuilderOffset::Unknown,
@@ -122,7 +122,7 @@ pub struct Built {
 
 impl Built {
     pub fn refused(number: u32) -> Built
-        ensures { result ≡ refusedBuild number }
+        ensures { result ≡ refused_build number }
     {
         Built {
             number: number,

@@ -1,7 +1,7 @@
 // Offsets from UTC. A raw number is never read as minutes, nor minutes as a raw number: only the functions
 // here go from one to the other.
 ghost use Rattle.std.specs.Prelude.{◌≡◌, ◌<◌, nat_abs, neg_ℤ, ◌-ℤ◌};
-ghost use Rattle.ion.specs.Pair.Offset.{offsetMinutes, rawOffset, offsetOf, rawOf, minutesOf, isOffset, WithinDay};
+ghost use Rattle.ion.specs.Pair.Offset.{offset_minutes, raw_offset, offset_of, raw_of, minutes_of, is_offset, WithinDay};
 
 // The text of an unknown offset.
 pub const UNKNOWN_TEXT: [u8; 6] = *b"-00:00";
@@ -25,7 +25,7 @@ pub enum Offset {
 
 impl RawOffset {
     pub fn new(bits: u16) -> RawOffset
-        ensures { result ≡ rawOffset bits }
+        ensures { result ≡ raw_offset bits }
     {
         RawOffset(bits)
     }
@@ -39,7 +39,7 @@ impl RawOffset {
 
 impl OffsetMinutes {
     pub fn new(minutes: i32) -> OffsetMinutes
-        ensures { result ≡ offsetMinutes minutes }
+        ensures { result ≡ offset_minutes minutes }
     {
         OffsetMinutes(minutes)
     }
@@ -52,7 +52,7 @@ impl OffsetMinutes {
 
     // Whether the minutes are those of a known offset: less than a day either way.
     pub fn is_offset(self) -> bool
-        ensures { result ≡ isOffset self.0 }
+        ensures { result ≡ is_offset self.0 }
     {
         -1440 < self.0 && self.0 < 1440
     }
@@ -60,7 +60,7 @@ impl OffsetMinutes {
     // The minutes to add for UTC.
     pub fn negated(self) -> OffsetMinutes
         requires { nat_abs self.0 < 1440 }
-        ensures { result ≡ offsetMinutes (neg_ℤ self.0) }
+        ensures { result ≡ offset_minutes (neg_ℤ self.0) }
     {
         OffsetMinutes(-self.0)
     }
@@ -76,7 +76,7 @@ impl OffsetMinutes {
 
 // The offset that a raw number stands for.
 pub fn offset_of(raw: RawOffset) -> Offset
-    ensures { result ≡ offsetOf raw }
+    ensures { result ≡ offset_of raw }
 {
     let n = raw.0;
     if n == 0 {
@@ -89,7 +89,7 @@ pub fn offset_of(raw: RawOffset) -> Offset
 // The raw number of an offset.
 pub fn raw_of(o: Offset) -> RawOffset
     requires { WithinDay o }
-    ensures { result ≡ rawOf o }
+    ensures { result ≡ raw_of o }
 {
     match o {
         Offset::Unknown => RawOffset(0),
@@ -99,7 +99,7 @@ pub fn raw_of(o: Offset) -> RawOffset
 
 // The minutes to subtract for UTC: none where the offset is unknown.
 pub fn minutes_of(o: Offset) -> OffsetMinutes
-    ensures { result ≡ offsetMinutes (minutesOf o) }
+    ensures { result ≡ offset_minutes (minutes_of o) }
 {
     match o {
         Offset::Unknown => OffsetMinutes(0),

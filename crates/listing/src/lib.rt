@@ -5,8 +5,8 @@ ghost use Rattle.std.specs.Prelude.{◌+◌, ◌*◌, ◌≤◌, ◌<◌, ◌≡
 ghost use Rattle.std.specs.Io.KnownBytes.{Appends};
 ghost use Rattle.ion.specs.Calls.Accepted.{Accepted};
 ghost use Rattle.ion.specs.Calls.Output.{Run};
-ghost use Rattle.ion.specs.Calls.Stamps.{lineOf, stopLine, outputOf};
-ghost use Rattle.ion.specs.Text.Format.{textOf};
+ghost use Rattle.ion.specs.Calls.Stamps.{line_of, stop_line, output_of};
+ghost use Rattle.ion.specs.Text.Format.{text_of};
 
 use ion::{Timestamp, refusal};
 use std::alloc::Global;
@@ -19,7 +19,7 @@ const MAX_INPUT: usize = 65_536;
 // Puts a text and a line feed from index `at` on; the index after them.
 fn put_text(buf: &mut [u8], at: usize, s: Timestamp) -> usize
     requires { (at + 45 ≤ length buf.old) × Accepted s }
-    ensures run { Run buf.old at (lineOf (textOf s)) buf.new result }
+    ensures run { Run buf.old at (line_of (text_of s)) buf.new result }
     ensures bound { result ≤ at + 45 }
 {
     let end = timestamp_text::text_into(buf, at, packed::unpack(s.packed_fields), s.attoseconds);
@@ -30,7 +30,7 @@ fn put_text(buf: &mut [u8], at: usize, s: Timestamp) -> usize
 // Puts `stop`, a space, the number and a line feed from index `at` on; the index after them.
 fn put_stop(buf: &mut [u8], at: usize, number: u32) -> usize
     requires { (at + 8 ≤ length buf.old) × (number < 100) }
-    ensures run { Run buf.old at (stopLine number) buf.new result }
+    ensures run { Run buf.old at (stop_line number) buf.new result }
     ensures bound { result ≤ at + 8 }
 {
     output::copy_in(buf, at, b"stop ");
@@ -43,7 +43,7 @@ fn put_stop(buf: &mut [u8], at: usize, number: u32) -> usize
 #[tactic(auto, using(crate::proofs::Listed::listing))]
 pub fn list(input: &[u8], buf: &mut [u8]) -> usize
     requires { 15 * length input.now + 8 ≤ length buf.old }
-    ensures run { Run buf.old 0 (outputOf input.now) buf.new result }
+    ensures run { Run buf.old 0 (output_of input.now) buf.new result }
     ensures bound { result ≤ length buf.old }
 {
     if MAX_INPUT < input.len() {
@@ -67,7 +67,7 @@ pub fn list(input: &[u8], buf: &mut [u8]) -> usize
 fn read_input<R: Read>(alloc: Global, reader: R) -> io::Result<Vec<u8>>
 where
     R: Drop,
-    ensures bytes { IfOk result (λ v. IfSome (R.remaining reader) (λ xs. outputOf v.items ≡ outputOf xs)) }
+    ensures bytes { IfOk result (λ v. IfSome (R.remaining reader) (λ xs. output_of v.items ≡ output_of xs)) }
     ensures bound { IfOk result (λ v. length v.items ≤ 65537) }
 {
     let most = MAX_INPUT + 1;
@@ -81,7 +81,7 @@ where
 pub fn run<R: Read, W: Write>(alloc: Global, reader: R, writer: &mut W) -> io::Result<()>
 where
     R: Drop,
-    ensures { OnOk result (IfSome (R.remaining reader) (λ xs. Appends (W.contents writer.old) (W.contents writer.new) (outputOf xs))) }
+    ensures { OnOk result (IfSome (R.remaining reader) (λ xs. Appends (W.contents writer.old) (W.contents writer.new) (output_of xs))) }
 {
     let input = read_input(alloc, reader)?;
     let mut output = vec![in alloc; 0u8; 15 * input.len() + 8]?;

@@ -2,42 +2,42 @@
 use mathlib.Core.Path.{◌≡◌, sym, ◌∙◌}
 use native.Mathlib.Decide.{ℕ_discrete}
 use lib.Dec.{eqb}
-use Rattle.ion.specs.Pair.Count.{countOf}
-use Rattle.ion.specs.Calls.Check.{checkNumber}
+use Rattle.ion.specs.Pair.Count.{count_of}
+use Rattle.ion.specs.Calls.Check.{check_number}
 use Rattle.ion.specs.Calls.Accepted.{Accepted}
-use Rattle.ion.specs.Calls.Order.{checkBoth, orderOf, ordered, refusedOrder, cmpOf, compared, refusedCompared, eqOf}
-use Rattle.ion.specs.Calls.Order.{distanceOfCounts, refusedDistance, distanceOf}
+use Rattle.ion.specs.Calls.Order.{check_both, order_of, ordered, refused_order, cmp_of, compared, refused_compared, eq_of}
+use Rattle.ion.specs.Calls.Order.{distance_of_counts, refused_distance, distance_of}
 use Rattle.ion.specs.declared.Timestamp.{Timestamp}
-use Rattle.ion.proofs.Answers.{answered-zero, answered-refused}
-use Rattle.timestamp.proofs.Accepts.{check-gives, check-zero}
+use Rattle.ion.proofs.Answers.{answered_zero, answered_refused}
+use Rattle.timestamp.proofs.Accepts.{check_gives, check_zero}
 
 -- ---- both checks answer 0 where both timestamps are accepted, and nowhere else
 
 module _ (s t : Timestamp) where
-  pub both-zero : Accepted s → Accepted t → checkBoth s t ≡ 0
-  both-zero p q = answered-zero (checkNumber s) (checkNumber t) (λ n. n) (check-zero s p) ∙ check-zero t q
+  pub both_zero : Accepted s → Accepted t → check_both s t ≡ 0
+  both_zero p q = answered_zero (check_number s) (check_number t) (λ n. n) (check_zero s p) ∙ check_zero t q
 
-  pub both-accepted : checkBoth s t ≡ 0 → Accepted s × Accepted t
-  both-accepted e = go (ℕ_discrete (checkNumber s) 0)
+  pub both_accepted : check_both s t ≡ 0 → Accepted s × Accepted t
+  both_accepted e = go (ℕ_discrete (check_number s) 0)
     where
-      go : Dec (checkNumber s ≡ 0) → Accepted s × Accepted t
-      go (yes h) = (check-gives s h, check-gives t (sym (answered-zero (checkNumber s) (checkNumber t) (λ n. n) h) ∙ e))
-      go (no h) = absurd (h (sym (answered-refused (checkNumber s) (checkNumber t) (λ n. n) h) ∙ e))
+      go : Dec (check_number s ≡ 0) → Accepted s × Accepted t
+      go (yes h) = (check_gives s h, check_gives t (sym (answered_zero (check_number s) (check_number t) (λ n. n) h) ∙ e))
+      go (no h) = absurd (h (sym (answered_refused (check_number s) (check_number t) (λ n. n) h) ∙ e))
 
 -- ---- of accepted timestamps `cmp`, `==` and the distance are by the counts
 
 module _ (s t : Timestamp) (p : Accepted s) (q : Accepted t) where
-  pub cmp-counts : cmpOf s t ≡ ordered (orderOf (countOf s) (countOf t))
-  unfolding cmpOf
-  cmp-counts = answered-zero _ _ refusedOrder (both-zero s t p q)
+  pub cmp_counts : cmp_of s t ≡ ordered (order_of (count_of s) (count_of t))
+  unfolding cmp_of
+  cmp_counts = answered_zero _ _ refused_order (both_zero s t p q)
 
-  pub eq-counts : eqOf s t ≡ compared (eqb (countOf s) (countOf t))
-  unfolding eqOf
-  eq-counts = answered-zero _ _ refusedCompared (both-zero s t p q)
+  pub eq_counts : eq_of s t ≡ compared (eqb (count_of s) (count_of t))
+  unfolding eq_of
+  eq_counts = answered_zero _ _ refused_compared (both_zero s t p q)
 
-  pub distance-counts : distanceOf s t ≡ distanceOfCounts (countOf s) (countOf t)
-  unfolding distanceOf
-  distance-counts = answered-zero _ _ refusedDistance (both-zero s t p q)
+  pub distance_counts : distance_of s t ≡ distance_of_counts (count_of s) (count_of t)
+  unfolding distance_of
+  distance_counts = answered_zero _ _ refused_distance (both_zero s t p q)
 
 -- for the code
-pub ruleset both = (both-accepted)
+pub ruleset both = (both_accepted)

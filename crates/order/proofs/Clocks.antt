@@ -4,107 +4,105 @@ use Prim.Native.Nat.{ℕ, ◌+◌, ◌*◌, ◌^◌, ◌<◌}
 use native.Mathlib.Omega.{arith}
 use lib.IntN.{ℤ, pos, neg_ℤ, nat_abs, ◌+ℤ◌, ◌-ℤ◌}
 use Rattle.integers.specs.Floor.{◌plus◌}
-use Rattle.integers.proofs.Parts.{IsNatural, up, down, apart, add-parts, sub-parts, neg-parts, plus-parts, natAbs-parts}
-use Rattle.ion.specs.Pair.Offset.{offsetOf}
-use Rattle.ion.specs.Pair.Count.{offsetIn, fieldsCount}
-use Rattle.ion.specs.Calendar.Shift.{minuteNumber}
-use Rattle.ion.specs.Calls.Accepted.{timeIn, dateIn, Valid}
-use Rattle.ion.specs.Calls.Order.{orderOf, orderOfPairs, distant, distanceOfCounts}
+use Rattle.integers.proofs.Parts.{IsNatural, up, down, apart, add_parts, sub_parts, neg_parts, plus_parts, nat_abs_parts}
+use Rattle.ion.specs.Pair.Offset.{offset_of}
+use Rattle.ion.specs.Pair.Count.{offset_in, fields_count}
+use Rattle.ion.specs.Calendar.Shift.{minute_number}
+use Rattle.ion.specs.Calls.Accepted.{time_in, date_in, Valid}
+use Rattle.ion.specs.Calls.Order.{order_of, order_of_pairs, distant, distance_of_counts}
 use Rattle.ion.specs.declared.Fields.{Fields}
-use Rattle.ion.proofs.Offsets.{within-day}
-use Rattle.calendar.proofs.Dates.{after-year-zero, day-number-below}
-use Rattle.timestamp.proofs.Valid.{valid-time, valid-offset}
-use Rattle.order.specs.Local.{IsLocalFields, secondsAt, offsetDifference, secondsOfBoth}
-use Rattle.order.proofs.Orders.{order-shift}
-use Rattle.order.proofs.CountsInSeconds.{size-shift, shift-counts, pairs-like}
+use Rattle.ion.proofs.Offsets.{within_day}
+use Rattle.calendar.proofs.Dates.{after_year_zero, day_number_below}
+use Rattle.timestamp.proofs.Valid.{valid_time, valid_offset}
+use Rattle.order.specs.Local.{IsLocalFields, seconds_at, offset_difference, seconds_of_both}
+use Rattle.order.proofs.Orders.{order_shift}
+use Rattle.order.proofs.CountsInSeconds.{size_shift, shift_counts, pairs_like}
 
 -- the fields of an accepted timestamp are local fields
-pub valid-local : {f : Fields} {a : ℕ} → Valid f a → IsLocalFields f
-valid-local {f} v =
+pub valid_local : {f : Fields} {a : ℕ} → Valid f a → IsLocalFields f
+valid_local {f} v =
     record {
-      time = valid-time v;
-      from-year = v.from-year;
-      to-year = v.to-year;
+      time = valid_time v;
+      from_year = v.from_year;
+      to_year = v.to_year;
       second = v.second;
-      offset = within-day (offsetOf f.offset) (valid-offset v);
+      offset = within_day (offset_of f.offset) (valid_offset v);
     }
 
 -- whole seconds in UTC
-abbrev pub utcSeconds : Fields → ℕ
-utcSeconds f = secondsAt f (neg_ℤ (offsetIn f))
+abbrev pub utc_seconds : Fields → ℕ
+utc_seconds f = seconds_at f (neg_ℤ (offset_in f))
 
 -- ---- minutes by another clock
 
 module _ (f : Fields) (p : IsLocalFields f) where
   abbrev minutes : ℕ
-  minutes = minuteNumber (timeIn f)
+  minutes = minute_number (time_in f)
 
-  pub minutes-below : minutes + 2880 < 2 ^ 33
-  minutes-below = omega (arith, day-number-below (dateIn f) p.time.date (omega (arith, p.to-year)), p.time.hours, p.time.minutes)
+  pub minutes_below : minutes + 2880 < 2 ^ 33
+  minutes_below = omega (arith, day_number_below (date_in f) p.time.date (omega (arith, p.to_year)), p.time.hours, p.time.minutes)
 
   -- a clock that is less than two days ahead or behind
   module _ (z : ℤ) (h : nat_abs z < 2880) where
     -- from year 1 on there are two days to take away
-    minutes-parts : (minutes plus z) + down z ≡ minutes + up z
-    minutes-parts = omega (arith, plus-parts minutes z (omega (arith, after-year-zero (dateIn f) p.from-year, natAbs-parts z)))
+    minutes_parts : (minutes plus z) + down z ≡ minutes + up z
+    minutes_parts = omega (arith, plus_parts minutes z (omega (arith, after_year_zero (date_in f) p.from_year, nat_abs_parts z)))
 
     -- the sum in signed numbers, as the code makes it
-    pub moved-gives : IsNatural (pos minutes +ℤ z) (minutes plus z)
-    moved-gives = omega (arith, add-parts (pos minutes) z, apart (pos minutes +ℤ z), minutes-parts)
+    pub moved_gives : IsNatural (pos minutes +ℤ z) (minutes plus z)
+    moved_gives = omega (arith, add_parts (pos minutes) z, apart (pos minutes +ℤ z), minutes_parts)
 
-    pub moved-below : minutes plus z < 2 ^ 33
-    moved-below = omega (arith, minutes-below, natAbs-parts z, minutes-parts)
+    pub moved_below : minutes plus z < 2 ^ 33
+    moved_below = omega (arith, minutes_below, nat_abs_parts z, minutes_parts)
 
-  pub utc-parts : (minutes plus neg_ℤ (offsetIn f)) + up (offsetIn f) ≡ minutes + down (offsetIn f)
-  utc-parts =
-      let o = offsetIn f in
+  pub utc_parts : (minutes plus neg_ℤ (offset_in f)) + up (offset_in f) ≡ minutes + down (offset_in f)
+  utc_parts =
+      let o = offset_in f in
       let m = neg_ℤ o in
-      let h : nat_abs m < 2880 = omega (arith, p.offset, natAbs-parts o, natAbs-parts m, neg-parts o) in
-      omega (arith, neg-parts o, minutes-parts m h)
+      let h : nat_abs m < 2880 = omega (arith, p.offset, nat_abs_parts o, nat_abs_parts m, neg_parts o) in
+      omega (arith, neg_parts o, minutes_parts m h)
 
 -- ---- both by the local clock of the first
 
 module _ (f g : Fields) (p : IsLocalFields f) (q : IsLocalFields g) where
-  pub ahead-small : nat_abs (offsetDifference f g) < 2880
-  ahead-small =
-      let o = offsetIn f in
-      let r = offsetIn g in
-      omega (arith, p.offset, q.offset, natAbs-parts o, natAbs-parts r, natAbs-parts (o -ℤ r), sub-parts o r, apart (o -ℤ r))
+  pub ahead_small : nat_abs (offset_difference f g) < 2880
+  ahead_small =
+      let o = offset_in f in
+      let r = offset_in g in
+      omega (arith, p.offset, q.offset, nat_abs_parts o, nat_abs_parts r, nat_abs_parts (o -ℤ r), sub_parts o r, apart (o -ℤ r))
 
   abbrev first : ℕ
-  first = (secondsOfBoth f g).first
+  first = (seconds_of_both f g).first
 
   abbrev second : ℕ
-  second = (secondsOfBoth f g).second
+  second = (seconds_of_both f g).second
 
   -- both are as far from UTC
-  same-clock : first + utcSeconds g ≡ second + utcSeconds f
-  same-clock =
-      let ahead = minutes-parts g q (offsetDifference f g) ahead-small in
-      omega (arith, utc-parts f p, utc-parts g q, ahead, sub-parts (offsetIn f) (offsetIn g))
+  same_clock : first + utc_seconds g ≡ second + utc_seconds f
+  same_clock =
+      let ahead = minutes_parts g q (offset_difference f g) ahead_small in
+      omega (arith, utc_parts f p, utc_parts g q, ahead, sub_parts (offset_in f) (offset_in g))
 
   module _ (a b : ℕ) where
-    pub order-is : a < 10 ^ 18 → b < 10 ^ 18 → orderOfPairs first a second b ≡ orderOf (fieldsCount f a) (fieldsCount g b)
-    order-is h k =
-        let s = utcSeconds f in
-        let t = utcSeconds g in
-        pairs-like (10 ^ 18) s t a b h k first second (order-shift first second s t same-clock)
+    pub order_is : a < 10 ^ 18 → b < 10 ^ 18 → order_of_pairs first a second b ≡ order_of (fields_count f a) (fields_count g b)
+    order_is h k =
+        let s = utc_seconds f in
+        let t = utc_seconds g in
+        pairs_like (10 ^ 18) s t a b h k first second (order_shift first second s t same_clock)
 
-    counts-shift : (first * 10 ^ 18 + a) + fieldsCount g b ≡ (second * 10 ^ 18 + b) + fieldsCount f a
-    counts-shift = shift-counts (10 ^ 18) first second (utcSeconds f) (utcSeconds g) a b same-clock
+    counts_shift : (first * 10 ^ 18 + a) + fields_count g b ≡ (second * 10 ^ 18 + b) + fields_count f a
+    counts_shift = shift_counts (10 ^ 18) first second (utc_seconds f) (utc_seconds g) a b same_clock
 
     pub distance_is :
-        distanceOfCounts (first * 10 ^ 18 + a) (second * 10 ^ 18 + b) ≡ distanceOfCounts (fieldsCount f a) (fieldsCount g b)
-    distance_is = ap₂ distant (order-shift _ _ _ _ counts-shift) (size-shift _ _ _ _ counts-shift)
+        distance_of_counts (first * 10 ^ 18 + a) (second * 10 ^ 18 + b) ≡ distance_of_counts (fields_count f a) (fields_count g b)
+    distance_is = ap₂ distant (order_shift _ _ _ _ counts_shift) (size_shift _ _ _ _ counts_shift)
 
 -- ---- lists of laws, for the code
 
-pub ruleset minutes_below = (minutes-below)
+pub ruleset ahead = (valid_local, ahead_small)
 
-pub ruleset ahead = (valid-local, ahead-small)
+pub ruleset moved = (moved_gives, moved_below)
 
-pub ruleset moved = (moved-gives, moved-below)
+pub ruleset clocks = (valid_local, distance_is)
 
-pub ruleset clocks = (valid-local, distance_is)
-
-pub ruleset in_utc = (valid-local)
+pub ruleset in_utc = (valid_local)

@@ -5,58 +5,58 @@ use native.Mathlib.Nat.{lt_of_lt_of_le, mul-le-mul_right, suc-mul, add-mul}
 use native.Mathlib.Decide.{ℕ_discrete}
 use native.Mathlib.Omega.{arith}
 use lib.IntN.{pos, ◌-ℤ◌}
-use Rattle.integers.proofs.Parts.{apart, sub-parts, natAbs-parts}
-use Rattle.ion.specs.Calls.Order.{orderOf, sizeOfDifference, orderOfPairs, distant, distanceOfCounts}
-use Rattle.order.proofs.Orders.{order-alike, pairs-first, pairs-second, pairs-alike}
+use Rattle.integers.proofs.Parts.{apart, sub_parts, nat_abs_parts}
+use Rattle.ion.specs.Calls.Order.{order_of, size_of_difference, order_of_pairs, distant, distance_of_counts}
+use Rattle.order.proofs.Orders.{order_alike, pairs_first, pairs_second, pairs_alike}
 
 -- the size in natural numbers: of the two subtractions, cut off at 0, one is 0
-size-cut : (m n : ℕ) → sizeOfDifference m n ≡ (m - n) + (n - m)
-size-cut m n = let z = pos m -ℤ pos n in omega (arith, sub-parts (pos m) (pos n), natAbs-parts z, apart z)
+size_cut : (m n : ℕ) → size_of_difference m n ≡ (m - n) + (n - m)
+size_cut m n = let z = pos m -ℤ pos n in omega (arith, sub_parts (pos m) (pos n), nat_abs_parts z, apart z)
 
-pub size-shift : (m n s t : ℕ) → m + t ≡ n + s → sizeOfDifference m n ≡ sizeOfDifference s t
-size-shift m n s t e = omega (arith, size-cut m n, size-cut s t)
+pub size_shift : (m n s t : ℕ) → m + t ≡ n + s → size_of_difference m n ≡ size_of_difference s t
+size_shift m n s t e = omega (arith, size_cut m n, size_cut s t)
 
-pub size-sym : (m n : ℕ) → sizeOfDifference m n ≡ sizeOfDifference n m
-size-sym m n = omega (arith, size-cut m n, size-cut n m)
+pub size_sym : (m n : ℕ) → size_of_difference m n ≡ size_of_difference n m
+size_sym m n = omega (arith, size_cut m n, size_cut n m)
 
 module _ (K : ℕ) where
   earlier : (s t a b : ℕ) → a < K → s < t → s * K + a < t * K + b
   earlier s t a b ha h = let l : suc s * K ≤ t * K = mul-le-mul_right K h in let e : suc s * K ≡ s * K + K = suc-mul s K in omega arith
 
   -- seconds that are as far from others make counts that are
-  pub shift-counts : (m n s t a b : ℕ) → m + t ≡ n + s → (m * K + a) + (t * K + b) ≡ (n * K + b) + (s * K + a)
-  shift-counts m n s t a b e =
+  pub shift_counts : (m n s t a b : ℕ) → m + t ≡ n + s → (m * K + a) + (t * K + b) ≡ (n * K + b) + (s * K + a)
+  shift_counts m n s t a b e =
       let l : m * K + t * K ≡ n * K + s * K = sym (add-mul m t K) ∙ ap (λ (x : ℕ). x * K) e ∙ add-mul n s K in
       omega arith
 
   module _ (s t a b : ℕ) (ha : a < K) (hb : b < K) where
-    pub pairs-count : orderOfPairs s a t b ≡ orderOf (s * K + a) (t * K + b)
-    pairs-count = go (ℕ_discrete s t)
+    pub pairs_count : order_of_pairs s a t b ≡ order_of (s * K + a) (t * K + b)
+    pairs_count = go (ℕ_discrete s t)
       where
-        go : Dec (s ≡ t) → orderOfPairs s a t b ≡ orderOf (s * K + a) (t * K + b)
+        go : Dec (s ≡ t) → order_of_pairs s a t b ≡ order_of (s * K + a) (t * K + b)
         go (yes e) =
             let k : s * K ≡ t * K = ap (λ (x : ℕ). x * K) e in
-            pairs-second s a t b e ∙ order-alike a b (s * K + a) (t * K + b) (λ h. omega arith) (λ h. omega arith) (λ h. omega arith)
+            pairs_second s a t b e ∙ order_alike a b (s * K + a) (t * K + b) (λ h. omega arith) (λ h. omega arith) (λ h. omega arith)
         go (no h) =
-            pairs-first s a t b h
-            ∙ order-alike s t (s * K + a) (t * K + b) (earlier s t a b ha) (λ e. absurd (h e)) (earlier t s b a hb)
+            pairs_first s a t b h
+            ∙ order_alike s t (s * K + a) (t * K + b) (earlier s t a b ha) (λ e. absurd (h e)) (earlier t s b a hb)
 
     -- whatever other seconds lie as these do
-    pub pairs-like : (m n : ℕ) → orderOf m n ≡ orderOf s t → orderOfPairs m a n b ≡ orderOf (s * K + a) (t * K + b)
-    pairs-like m n e = pairs-alike m n s t a b e ∙ pairs-count
+    pub pairs_like : (m n : ℕ) → order_of m n ≡ order_of s t → order_of_pairs m a n b ≡ order_of (s * K + a) (t * K + b)
+    pairs_like m n e = pairs_alike m n s t a b e ∙ pairs_count
 
 -- numbers of two digits lie as their first digits do, whatever the bases
-pub digits-alike :
+pub digits_alike :
     (B C m n s t a b : ℕ) → C ≤ B → a < C → b < C →
-    orderOf m n ≡ orderOf s t → orderOf (m * B + a) (n * B + b) ≡ orderOf (s * C + a) (t * C + b)
-digits-alike B C m n s t a b l ha hb e =
-    sym (pairs-count B m n a b (lt_of_lt_of_le ha l) (lt_of_lt_of_le hb l)) ∙ pairs-like C s t a b ha hb m n e
+    order_of m n ≡ order_of s t → order_of (m * B + a) (n * B + b) ≡ order_of (s * C + a) (t * C + b)
+digits_alike B C m n s t a b l ha hb e =
+    sym (pairs_count B m n a b (lt_of_lt_of_le ha l) (lt_of_lt_of_le hb l)) ∙ pairs_like C s t a b ha hb m n e
 
 -- the distance with a given sign, of a first count that is earlier
-pub earlier-distance : (m a n b : ℕ) → a < 10 ^ 18 → b < 10 ^ 18 →
-    distant (orderOfPairs m a n b) (sizeOfDifference (n * 10 ^ 18 + b) (m * 10 ^ 18 + a))
-    ≡ distanceOfCounts (m * 10 ^ 18 + a) (n * 10 ^ 18 + b)
-earlier-distance m a n b h k = ap₂ distant (pairs-count (10 ^ 18) m n a b h k) (size-sym (n * 10 ^ 18 + b) (m * 10 ^ 18 + a))
+pub earlier_distance : (m a n b : ℕ) → a < 10 ^ 18 → b < 10 ^ 18 →
+    distant (order_of_pairs m a n b) (size_of_difference (n * 10 ^ 18 + b) (m * 10 ^ 18 + a))
+    ≡ distance_of_counts (m * 10 ^ 18 + a) (n * 10 ^ 18 + b)
+earlier_distance m a n b h k = ap₂ distant (pairs_count (10 ^ 18) m n a b h k) (size_sym (n * 10 ^ 18 + b) (m * 10 ^ 18 + a))
 
 -- for the code
-pub ruleset turned = (earlier-distance)
+pub ruleset turned = (earlier_distance)

@@ -8,84 +8,84 @@ use native.Mathlib.Decide.{dec_le}
 use native.Mathlib.Omega.{arith}
 use lib.IntN.{pos, negsuc, neg_ℤ}
 use lib.Signed.{le_z}
-use Rattle.ion.specs.Calendar.Dates.{isLeap, monthLengthOf, sumBelow}
-use Rattle.ion.specs.Pair.Offset.{rawOffset}
-use Rattle.ion.specs.Pair.Word.{wordOf, fieldsOf}
-use Rattle.ion.specs.Pair.Pair.{wordIn, packedPair}
-use Rattle.ion.specs.Calls.Build.{buildOf, buildNumber, buildPair}
-use Rattle.ion.specs.Calls.Check.{checkOf}
+use Rattle.ion.specs.Calendar.Dates.{is_leap, month_length_of, sum_below}
+use Rattle.ion.specs.Pair.Offset.{raw_offset}
+use Rattle.ion.specs.Pair.Word.{word_of, fields_of}
+use Rattle.ion.specs.Pair.Pair.{word_in, packed_pair}
+use Rattle.ion.specs.Calls.Build.{build_of, build_number, build_pair}
+use Rattle.ion.specs.Calls.Check.{check_of}
 use Rattle.ion.specs.Calls.Accepted.{Accepted}
-use Rattle.ion.specs.Pair.Count.{countOf}
-use Rattle.ion.specs.Calls.Order.{ordered, refusedOrder, cmpOf, ionCmpOf}
+use Rattle.ion.specs.Pair.Count.{count_of}
+use Rattle.ion.specs.Calls.Order.{ordered, refused_order, cmp_of, ion_cmp_of}
 use Rattle.ion.specs.declared.Timestamp.{Timestamp}
-use Rattle.ion.proofs.Answers.{answered-zero}
-use Rattle.order.proofs.Orders.{order-at-most, at-most-order, order-equal, order-turned}
-use Rattle.order.proofs.Answers.{both-zero, cmp-counts}
-use Rattle.order.proofs.WordOrder.{word-order}
+use Rattle.ion.proofs.Answers.{answered_zero}
+use Rattle.order.proofs.Orders.{order_at_most, at_most_order, order_equal, order_turned}
+use Rattle.order.proofs.Answers.{both_zero, cmp_counts}
+use Rattle.order.proofs.WordOrder.{word_order}
 
 -- `cmp` gives -1 or 0
 abbrev pub NotLater : Timestamp → Timestamp → Type 0
-NotLater s t = le_z (cmpOf s t).order (pos 0) ≡ true
+NotLater s t = le_z (cmp_of s t).order (pos 0) ≡ true
 
 module _ (s t : Timestamp) (p : Accepted s) (q : Accepted t) where
-  at-most-counts : NotLater s t → countOf s ≤ countOf t
-  at-most-counts h = order-at-most (countOf s) (countOf t) (rw (cmp-counts s t p q) at h)
+  at_most_counts : NotLater s t → count_of s ≤ count_of t
+  at_most_counts h = order_at_most (count_of s) (count_of t) (rw (cmp_counts s t p q) at h)
 
-  not-later : countOf s ≤ countOf t → NotLater s t
-  not-later h = rw (cmp-counts s t p q) (at-most-order (countOf s) (countOf t) h)
+  not_later : count_of s ≤ count_of t → NotLater s t
+  not_later h = rw (cmp_counts s t p q) (at_most_order (count_of s) (count_of t) h)
 
-  equal-counts : (cmpOf s t).order ≡ pos 0 → countOf s ≡ countOf t
-  equal-counts h = order-equal (countOf s) (countOf t) (rw (cmp-counts s t p q) at h)
+  equal_counts : (cmp_of s t).order ≡ pos 0 → count_of s ≡ count_of t
+  equal_counts h = order_equal (count_of s) (count_of t) (rw (cmp_counts s t p q) at h)
 
 -- any three accepted timestamps, whatever their precisions and offsets
 pub record IsOrder (s t u : Timestamp) : Type 0 where
   pub total : NotLater s t ⊎ NotLater t s
-  pub turned : (cmpOf t s).order ≡ neg_ℤ (cmpOf s t).order
+  pub turned : (cmp_of t s).order ≡ neg_ℤ (cmp_of s t).order
   pub transitive : NotLater s t → NotLater t u → NotLater s u
   -- equal ones compare alike with every third
-  pub alike : (cmpOf s t).order ≡ pos 0 → (cmpOf s u ≡ cmpOf t u) × (cmpOf u s ≡ cmpOf u t)
+  pub alike : (cmp_of s t).order ≡ pos 0 → (cmp_of s u ≡ cmp_of t u) × (cmp_of u s ≡ cmp_of u t)
 
-pub cmp-order : (s t u : Timestamp) → Accepted s → Accepted t → Accepted u → IsOrder s t u
-cmp-order s t u p q r = record { total = total; turned = turned; transitive = transitive; alike = alike }
+pub cmp_order : (s t u : Timestamp) → Accepted s → Accepted t → Accepted u → IsOrder s t u
+cmp_order s t u p q r = record { total = total; turned = turned; transitive = transitive; alike = alike }
   where
     total : NotLater s t ⊎ NotLater t s
-    total = go (dec_le (countOf s) (countOf t))
+    total = go (dec_le (count_of s) (count_of t))
       where
-        go : Dec (countOf s ≤ countOf t) → NotLater s t ⊎ NotLater t s
-        go (yes h) = inl (not-later s t p q h)
-        go (no h) = inr (not-later t s q p (omega arith))
+        go : Dec (count_of s ≤ count_of t) → NotLater s t ⊎ NotLater t s
+        go (yes h) = inl (not_later s t p q h)
+        go (no h) = inr (not_later t s q p (omega arith))
 
-    turned : (cmpOf t s).order ≡ neg_ℤ (cmpOf s t).order
-    turned = rw (cmp-counts s t p q, cmp-counts t s q p) (order-turned (countOf s) (countOf t))
+    turned : (cmp_of t s).order ≡ neg_ℤ (cmp_of s t).order
+    turned = rw (cmp_counts s t p q, cmp_counts t s q p) (order_turned (count_of s) (count_of t))
 
     transitive : NotLater s t → NotLater t u → NotLater s u
-    transitive h k = not-later s u p r (le_trans (at-most-counts s t p q h) (at-most-counts t u q r k))
+    transitive h k = not_later s u p r (le_trans (at_most_counts s t p q h) (at_most_counts t u q r k))
 
-    alike : (cmpOf s t).order ≡ pos 0 → (cmpOf s u ≡ cmpOf t u) × (cmpOf u s ≡ cmpOf u t)
+    alike : (cmp_of s t).order ≡ pos 0 → (cmp_of s u ≡ cmp_of t u) × (cmp_of u s ≡ cmp_of u t)
     alike h =
-        let e = equal-counts s t p q h in (
-          rw (cmp-counts s u p r, cmp-counts t u q r, e),
-          rw (cmp-counts u s r p, cmp-counts u t r q, e),
+        let e = equal_counts s t p q h in (
+          rw (cmp_counts s u p r, cmp_counts t u q r, e),
+          rw (cmp_counts u s r p, cmp_counts u t r q, e),
         )
 
 -- ---- against `ion_cmp`
 
 -- with the same raw offset, precision and digit count they agree
-pub stored-is-time :
+pub stored_is_time :
     (s t : Timestamp) → Accepted s → Accepted t →
-    (fieldsOf (wordIn s)).offset.0 ≡ (fieldsOf (wordIn t)).offset.0 →
-    (fieldsOf (wordIn s)).precision ≡ (fieldsOf (wordIn t)).precision →
-    (fieldsOf (wordIn s)).digits ≡ (fieldsOf (wordIn t)).digits →
-    ionCmpOf s t ≡ cmpOf s t
-unfolding ionCmpOf
-stored-is-time s t p q o h k =
-    answered-zero _ _ refusedOrder (both-zero s t p q) ∙ ap ordered (word-order s t p q o h k) ∙ sym (cmp-counts s t p q)
+    (fields_of (word_in s)).offset.0 ≡ (fields_of (word_in t)).offset.0 →
+    (fields_of (word_in s)).precision ≡ (fields_of (word_in t)).precision →
+    (fields_of (word_in s)).digits ≡ (fields_of (word_in t)).digits →
+    ion_cmp_of s t ≡ cmp_of s t
+unfolding ion_cmp_of
+stored_is_time s t p q o h k =
+    answered_zero _ _ refused_order (both_zero s t p q) ∙ ap ordered (word_order s t p q o h k) ∙ sym (cmp_counts s t p q)
 
 -- 2020-02-03T04:05:06 in UTC with a fraction of so many digits
 abbrev pub sixth : ℕ → ℕ → Timestamp
 sixth digits a =
-    packedPair
-    (wordOf
+    packed_pair
+    (word_of
     (record {
       year = 2020;
       month = 2;
@@ -95,13 +95,13 @@ sixth digits a =
       second = 6;
       precision = 4;
       digits = digits;
-      offset = rawOffset 1440;
+      offset = raw_offset 1440;
     }))
     a
 
 -- without equal digit counts they need not: .5 is later than .10, though stored before it
-pub stored-is-not-time :
-    (cmpOf (sixth 1 (5 * 10 ^ 17)) (sixth 2 (1 * 10 ^ 17)) ≡ ordered (pos 1))
-    × (ionCmpOf (sixth 1 (5 * 10 ^ 17)) (sixth 2 (1 * 10 ^ 17)) ≡ ordered (negsuc 0))
-unfolding wordOf fieldsOf checkOf buildOf buildNumber buildPair countOf cmpOf ionCmpOf isLeap monthLengthOf sumBelow
-stored-is-not-time = (refl, refl)
+pub stored_is_not_time :
+    (cmp_of (sixth 1 (5 * 10 ^ 17)) (sixth 2 (1 * 10 ^ 17)) ≡ ordered (pos 1))
+    × (ion_cmp_of (sixth 1 (5 * 10 ^ 17)) (sixth 2 (1 * 10 ^ 17)) ≡ ordered (negsuc 0))
+unfolding word_of fields_of check_of build_of build_number build_pair count_of cmp_of ion_cmp_of is_leap month_length_of sum_below
+stored_is_not_time = (refl, refl)

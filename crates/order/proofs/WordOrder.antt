@@ -4,89 +4,89 @@ use mathlib.Core.Logic.{◌⊎◌, inl, inr}
 use Prim.Native.Nat.{ℕ, ◌+◌, ◌*◌, ◌/◌, ◌%◌, ◌^◌, ◌<◌}
 use native.Mathlib.Omega.{arith}
 use Rattle.integers.proofs.Parts.{up, down}
-use Rattle.ion.specs.Pair.Offset.{rawOffset, offsetOf, minutesOf}
-use Rattle.ion.specs.Calendar.Dates.{IsDate, Earlier, dayNumber}
-use Rattle.ion.specs.Pair.Pair.{wordIn}
-use Rattle.ion.specs.Calls.Accepted.{dateIn, Accepted}
-use Rattle.ion.specs.Pair.Count.{offsetIn, countOf}
-use Rattle.ion.specs.Calls.Order.{orderOf, orderOfPairs}
-use Rattle.ion.specs.Pair.Word.{InRange, wordOf, fieldsOf}
+use Rattle.ion.specs.Pair.Offset.{raw_offset, offset_of, minutes_of}
+use Rattle.ion.specs.Calendar.Dates.{IsDate, Earlier, day_number}
+use Rattle.ion.specs.Pair.Pair.{word_in}
+use Rattle.ion.specs.Calls.Accepted.{date_in, Accepted}
+use Rattle.ion.specs.Pair.Count.{offset_in, count_of}
+use Rattle.ion.specs.Calls.Order.{order_of, order_of_pairs}
+use Rattle.ion.specs.Pair.Word.{InRange, word_of, fields_of}
 use Rattle.ion.specs.declared.Date.{Date}
 use Rattle.ion.specs.declared.Fields.{Fields}
 use Rattle.ion.specs.declared.Timestamp.{Timestamp}
-use Rattle.calendar.proofs.Dates.{month-of, day-of, day-number-mono, date-order}
-use Rattle.timestamp.proofs.Valid.{valid-in-range, accepted-word}
+use Rattle.calendar.proofs.Dates.{month_of_lem, day_of_lem, day_number_mono, date_order}
+use Rattle.timestamp.proofs.Valid.{valid_in_range, accepted_word}
 use Rattle.order.specs.Local.{IsLocalFields}
-use Rattle.order.proofs.Orders.{order-less, order-more, order-same, order-alike, order-shift, pairs-alike}
-use Rattle.order.proofs.CountsInSeconds.{pairs-like, digits-alike}
-use Rattle.order.proofs.Clocks.{valid-local, utcSeconds, utc-parts}
+use Rattle.order.proofs.Orders.{order_less, order_more, order_same, order_alike, order_shift, pairs_alike}
+use Rattle.order.proofs.CountsInSeconds.{pairs_like, digits_alike}
+use Rattle.order.proofs.Clocks.{valid_local, utc_seconds, utc_parts}
 
 -- ---- dates
 
 -- the date's part of a word
-abbrev dateWord : Date → ℕ
-dateWord t = (t.year * 2 ^ 4 + t.month) * 2 ^ 5 + t.day
+abbrev date_word : Date → ℕ
+date_word t = (t.year * 2 ^ 4 + t.month) * 2 ^ 5 + t.day
 
-word-earlier : (s t : Date) → IsDate s → IsDate t → Earlier s t → dateWord s < dateWord t
-word-earlier s t p q (inl h) = omega (arith, month-of s p, day-of s p)
-word-earlier s t p q (inr (e, inl h)) = omega (arith, day-of s p)
-word-earlier s t p q (inr (e, inr (f, h))) = omega arith
+word_earlier : (s t : Date) → IsDate s → IsDate t → Earlier s t → date_word s < date_word t
+word_earlier s t p q (inl h) = omega (arith, month_of_lem s p, day_of_lem s p)
+word_earlier s t p q (inr (e, inl h)) = omega (arith, day_of_lem s p)
+word_earlier s t p q (inr (e, inr (f, h))) = omega arith
 
-date-alike : (s t : Date) → IsDate s → IsDate t → orderOf (dateWord s) (dateWord t) ≡ orderOf (dayNumber s) (dayNumber t)
-date-alike s t p q = go (date-order s t)
+date_alike : (s t : Date) → IsDate s → IsDate t → order_of (date_word s) (date_word t) ≡ order_of (day_number s) (day_number t)
+date_alike s t p q = go (date_order s t)
   where
-    go : Earlier s t ⊎ ((s ≡ t) ⊎ Earlier t s) → orderOf (dateWord s) (dateWord t) ≡ orderOf (dayNumber s) (dayNumber t)
-    go (inl h) = order-less _ _ (word-earlier s t p q h) ∙ sym (order-less _ _ (day-number-mono s t p q h))
-    go (inr (inl e)) = order-same _ _ (ap dateWord e) ∙ sym (order-same _ _ (ap dayNumber e))
-    go (inr (inr h)) = order-more _ _ (word-earlier t s q p h) ∙ sym (order-more _ _ (day-number-mono t s q p h))
+    go : Earlier s t ⊎ ((s ≡ t) ⊎ Earlier t s) → order_of (date_word s) (date_word t) ≡ order_of (day_number s) (day_number t)
+    go (inl h) = order_less _ _ (word_earlier s t p q h) ∙ sym (order_less _ _ (day_number_mono s t p q h))
+    go (inr (inl e)) = order_same _ _ (ap date_word e) ∙ sym (order_same _ _ (ap day_number e))
+    go (inr (inr h)) = order_more _ _ (word_earlier t s q p h) ∙ sym (order_more _ _ (day_number_mono t s q p h))
 
 -- ---- dates and times
 
 -- the date and the hour, and the minute, and the second
-abbrev hourWord : Fields → ℕ
-hourWord f = dateWord (dateIn f) * 2 ^ 5 + f.hour
+abbrev hour_word : Fields → ℕ
+hour_word f = date_word (date_in f) * 2 ^ 5 + f.hour
 
-abbrev minuteWord : Fields → ℕ
-minuteWord f = hourWord f * 2 ^ 6 + f.minute
+abbrev minute_word : Fields → ℕ
+minute_word f = hour_word f * 2 ^ 6 + f.minute
 
-abbrev timeWord : Fields → ℕ
-timeWord f = minuteWord f * 2 ^ 6 + f.second
+abbrev time_word : Fields → ℕ
+time_word f = minute_word f * 2 ^ 6 + f.second
 
 -- whole hours, minutes and seconds by the local clock
-abbrev hoursIn : Fields → ℕ
-hoursIn f = dayNumber (dateIn f) * 24 + f.hour
+abbrev hours_in : Fields → ℕ
+hours_in f = day_number (date_in f) * 24 + f.hour
 
-abbrev minutesIn : Fields → ℕ
-minutesIn f = hoursIn f * 60 + f.minute
+abbrev minutes_in : Fields → ℕ
+minutes_in f = hours_in f * 60 + f.minute
 
-abbrev localSeconds : Fields → ℕ
-localSeconds f = minutesIn f * 60 + f.second
+abbrev local_seconds : Fields → ℕ
+local_seconds f = minutes_in f * 60 + f.second
 
 module _ (f g : Fields) (p : IsLocalFields f) (q : IsLocalFields g) where
-  hours-alike : orderOf (hourWord f) (hourWord g) ≡ orderOf (hoursIn f) (hoursIn g)
-  hours-alike =
-      let s = dateIn f in
-      let t = dateIn g in
-      digits-alike (2 ^ 5) 24 (dateWord s) (dateWord t) (dayNumber s) (dayNumber t) f.hour g.hour
-      (omega arith) p.time.hours q.time.hours (date-alike s t p.time.date q.time.date)
+  hours_alike : order_of (hour_word f) (hour_word g) ≡ order_of (hours_in f) (hours_in g)
+  hours_alike =
+      let s = date_in f in
+      let t = date_in g in
+      digits_alike (2 ^ 5) 24 (date_word s) (date_word t) (day_number s) (day_number t) f.hour g.hour
+      (omega arith) p.time.hours q.time.hours (date_alike s t p.time.date q.time.date)
 
-  minutes-alike : orderOf (minuteWord f) (minuteWord g) ≡ orderOf (minutesIn f) (minutesIn g)
-  minutes-alike =
-      digits-alike (2 ^ 6) 60 (hourWord f) (hourWord g) (hoursIn f) (hoursIn g) f.minute g.minute
-      (omega arith) p.time.minutes q.time.minutes hours-alike
+  minutes_alike : order_of (minute_word f) (minute_word g) ≡ order_of (minutes_in f) (minutes_in g)
+  minutes_alike =
+      digits_alike (2 ^ 6) 60 (hour_word f) (hour_word g) (hours_in f) (hours_in g) f.minute g.minute
+      (omega arith) p.time.minutes q.time.minutes hours_alike
 
-  time-alike : orderOf (timeWord f) (timeWord g) ≡ orderOf (localSeconds f) (localSeconds g)
-  time-alike =
-      digits-alike (2 ^ 6) 60 (minuteWord f) (minuteWord g) (minutesIn f) (minutesIn g) f.second g.second
-      (omega arith) (omega (arith, p.second)) (omega (arith, q.second)) minutes-alike
+  time_alike : order_of (time_word f) (time_word g) ≡ order_of (local_seconds f) (local_seconds g)
+  time_alike =
+      digits_alike (2 ^ 6) 60 (minute_word f) (minute_word g) (minutes_in f) (minutes_in g) f.second g.second
+      (omega arith) (omega (arith, p.second)) (omega (arith, q.second)) minutes_alike
 
   -- what the same offset takes from both does not show
-  offset-alike : offsetIn f ≡ offsetIn g → orderOf (timeWord f) (timeWord g) ≡ orderOf (utcSeconds f) (utcSeconds g)
-  offset-alike e =
+  offset_alike : offset_in f ≡ offset_in g → order_of (time_word f) (time_word g) ≡ order_of (utc_seconds f) (utc_seconds g)
+  offset_alike e =
       let u = ap up e in
       let d = ap down e in
-      time-alike
-      ∙ order-shift (localSeconds f) (localSeconds g) (utcSeconds f) (utcSeconds g) (omega (arith, utc-parts f p, utc-parts g q))
+      time_alike
+      ∙ order_shift (local_seconds f) (local_seconds g) (utc_seconds f) (utc_seconds g) (omega (arith, utc_parts f p, utc_parts g q))
 
 -- ---- words cut at the second
 
@@ -94,51 +94,52 @@ module _ (f g : Fields) (p : IsLocalFields f) (q : IsLocalFields g) where
 abbrev pub cut : ℕ → ℕ
 cut w = w / 2 ^ 24
 
-cut-word : (f : Fields) → InRange f → cut (wordOf f) ≡ timeWord f
-unfolding wordOf
-cut-word f h = omega arith
+cut_word : (f : Fields) → InRange f → cut (word_of f) ≡ time_word f
+unfolding word_of
+cut_word f h = omega arith
 
 -- what is cut off: the precision and what stands below
-abbrev lowWord : Fields → ℕ
-lowWord f = ((f.precision * 2 ^ 5 + f.digits) * 2 ^ 12 + f.offset.0) * 2 ^ 4
+abbrev low_word : Fields → ℕ
+low_word f = ((f.precision * 2 ^ 5 + f.digits) * 2 ^ 12 + f.offset.0) * 2 ^ 4
 
-low-word : (f : Fields) → InRange f → wordOf f % 2 ^ 24 ≡ lowWord f
-unfolding wordOf
-low-word f h = omega arith
+low_word_lem : (f : Fields) → InRange f → word_of f % 2 ^ 24 ≡ low_word f
+unfolding word_of
+low_word_lem f h = omega arith
 
 -- where that is the same the rest decides
-same-low : (v w : ℕ) → v % 2 ^ 24 ≡ w % 2 ^ 24 → orderOf v w ≡ orderOf (cut v) (cut w)
-same-low v w e = order-alike v w (cut v) (cut w) (λ h. omega arith) (λ h. omega arith) (λ h. omega arith)
+same_low : (v w : ℕ) → v % 2 ^ 24 ≡ w % 2 ^ 24 → order_of v w ≡ order_of (cut v) (cut w)
+same_low v w e = order_alike v w (cut v) (cut w) (λ h. omega arith) (λ h. omega arith) (λ h. omega arith)
 
 -- ---- accepted timestamps
 
-accepted-cut : {s : Timestamp} → Accepted s → cut (wordIn s) ≡ timeWord (fieldsOf (wordIn s))
-accepted-cut p = ap cut (sym (accepted-word p)) ∙ cut-word _ (valid-in-range p.fields)
+accepted_cut : {s : Timestamp} → Accepted s → cut (word_in s) ≡ time_word (fields_of (word_in s))
+accepted_cut p = ap cut (sym (accepted_word p)) ∙ cut_word _ (valid_in_range p.fields)
 
-accepted-low : {s : Timestamp} → Accepted s → wordIn s % 2 ^ 24 ≡ lowWord (fieldsOf (wordIn s))
-accepted-low p = ap (λ (w : ℕ). w % 2 ^ 24) (sym (accepted-word p)) ∙ low-word _ (valid-in-range p.fields)
+accepted_low : {s : Timestamp} → Accepted s → word_in s % 2 ^ 24 ≡ low_word (fields_of (word_in s))
+accepted_low p = ap (λ (w : ℕ). w % 2 ^ 24) (sym (accepted_word p)) ∙ low_word_lem _ (valid_in_range p.fields)
 
-module _ (s t : Timestamp) (p : Accepted s) (q : Accepted t) (e : (fieldsOf (wordIn s)).offset.0 ≡ (fieldsOf (wordIn t)).offset.0) where
+module _ (s t : Timestamp) (p : Accepted s) (q : Accepted t) (e : (fields_of (word_in s)).offset.0 ≡ (fields_of (word_in t)).offset.0) where
   -- the cut words lie as the instants do
-  cut-alike : orderOf (cut (wordIn s)) (cut (wordIn t)) ≡ orderOf (utcSeconds (fieldsOf (wordIn s))) (utcSeconds (fieldsOf (wordIn t)))
-  cut-alike =
-      let o = ap (λ (n : ℕ). minutesOf (offsetOf (rawOffset n))) e in
-      ap₂ orderOf (accepted-cut p) (accepted-cut q) ∙ offset-alike _ _ (valid-local p.fields) (valid-local q.fields) o
+  cut_alike : order_of (cut (word_in s)) (cut (word_in t))
+      ≡ order_of (utc_seconds (fields_of (word_in s))) (utc_seconds (fields_of (word_in t)))
+  cut_alike =
+      let o = ap (λ (n : ℕ). minutes_of (offset_of (raw_offset n))) e in
+      ap₂ order_of (accepted_cut p) (accepted_cut q) ∙ offset_alike _ _ (valid_local p.fields) (valid_local q.fields) o
 
-  pub cut-order : orderOfPairs (cut (wordIn s)) s.attoseconds (cut (wordIn t)) t.attoseconds ≡ orderOf (countOf s) (countOf t)
-  unfolding countOf
-  cut-order =
-      pairs-like (10 ^ 18) (utcSeconds (fieldsOf (wordIn s))) (utcSeconds (fieldsOf (wordIn t))) s.attoseconds t.attoseconds
-      p.fields.attoseconds q.fields.attoseconds (cut (wordIn s)) (cut (wordIn t)) cut-alike
+  pub cut_order : order_of_pairs (cut (word_in s)) s.attoseconds (cut (word_in t)) t.attoseconds ≡ order_of (count_of s) (count_of t)
+  unfolding count_of
+  cut_order =
+      pairs_like (10 ^ 18) (utc_seconds (fields_of (word_in s))) (utc_seconds (fields_of (word_in t))) s.attoseconds t.attoseconds
+      p.fields.attoseconds q.fields.attoseconds (cut (word_in s)) (cut (word_in t)) cut_alike
 
   -- with the same precision and digits too, whole words do
-  pub word-order :
-      (fieldsOf (wordIn s)).precision ≡ (fieldsOf (wordIn t)).precision →
-      (fieldsOf (wordIn s)).digits ≡ (fieldsOf (wordIn t)).digits →
-      orderOfPairs (wordIn s) s.attoseconds (wordIn t) t.attoseconds ≡ orderOf (countOf s) (countOf t)
-  word-order h k =
-      let v = wordIn s in
-      let w = wordIn t in
-      let l = accepted-low p in
-      let r = accepted-low q in
-      pairs-alike v w (cut v) (cut w) s.attoseconds t.attoseconds (same-low v w (omega arith)) ∙ cut-order
+  pub word_order :
+      (fields_of (word_in s)).precision ≡ (fields_of (word_in t)).precision →
+      (fields_of (word_in s)).digits ≡ (fields_of (word_in t)).digits →
+      order_of_pairs (word_in s) s.attoseconds (word_in t) t.attoseconds ≡ order_of (count_of s) (count_of t)
+  word_order h k =
+      let v = word_in s in
+      let w = word_in t in
+      let l = accepted_low p in
+      let r = accepted_low q in
+      pairs_alike v w (cut v) (cut w) s.attoseconds t.attoseconds (same_low v w (omega arith)) ∙ cut_order

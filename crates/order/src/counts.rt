@@ -1,12 +1,12 @@
 // Order and distance of two counts, each as whole seconds and the attoseconds after them.
 ghost use Rattle.std.specs.Prelude.{◌≡◌, ◌+◌, ◌*◌, ◌^◌, ◌≤◌, ◌<◌};
-ghost use Rattle.ion.specs.Calls.Order.{sizeOfDifference, distant, distanceOfCounts, orderOfPairs};
+ghost use Rattle.ion.specs.Calls.Order.{size_of_difference, distant, distance_of_counts, order_of_pairs};
 
 use ion::{Distance, MAX_ATTOSECONDS};
 
 // -1, 0 or 1, by the first numbers and then by the second.
 pub(crate) fn order_of_pairs(m: u64, a: u64, n: u64, b: u64) -> i32
-    ensures { result ≡ orderOfPairs m a n b }
+    ensures { result ≡ order_of_pairs m a n b }
 {
     if m < n {
         return -1;
@@ -26,7 +26,7 @@ pub(crate) fn order_of_pairs(m: u64, a: u64, n: u64, b: u64) -> i32
 // The distance with a given sign, of two counts of which the first is not earlier.
 fn distance_by(sign: i32, m: u64, a: u64, n: u64, b: u64) -> Distance
     requires { (a < 10 ^ 18) × (b < 10 ^ 18) × (n * 10 ^ 18 + b ≤ m * 10 ^ 18 + a) }
-    ensures { result ≡ distant sign (sizeOfDifference (m * 10 ^ 18 + a) (n * 10 ^ 18 + b)) }
+    ensures { result ≡ distant sign (size_of_difference (m * 10 ^ 18 + a) (n * 10 ^ 18 + b)) }
 {
     if b <= a {
         return Distance {
@@ -48,7 +48,7 @@ fn distance_by(sign: i32, m: u64, a: u64, n: u64, b: u64) -> Distance
 #[tactic(auto, using(crate::proofs::CountsInSeconds::turned))]
 pub fn distance_of_counts(m: u64, a: u64, n: u64, b: u64) -> Distance
     requires { (a < 10 ^ 18) × (b < 10 ^ 18) }
-    ensures { result ≡ distanceOfCounts (m * 10 ^ 18 + a) (n * 10 ^ 18 + b) }
+    ensures { result ≡ distance_of_counts (m * 10 ^ 18 + a) (n * 10 ^ 18 + b) }
 {
     let sign = order_of_pairs(m, a, n, b);
     if sign < 0 {

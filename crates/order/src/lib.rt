@@ -6,7 +6,7 @@ mod counts;
 mod seconds;
 
 ghost use Rattle.std.specs.Prelude.{◌≡◌};
-ghost use Rattle.ion.specs.Calls.Order.{checkBoth, cmpOf, eqOf, ionEqOf, ionCmpOf, distanceOf};
+ghost use Rattle.ion.specs.Calls.Order.{check_both, cmp_of, eq_of, ion_eq_of, ion_cmp_of, distance_of};
 
 use accepted::{distance_of, order_of};
 use counts::order_of_pairs;
@@ -18,7 +18,7 @@ pub use seconds::utc_seconds;
 
 // The first number of the two checks that is not 0; 0 where both timestamps are accepted.
 fn check_both(s: Timestamp, t: Timestamp) -> u32
-    ensures { result ≡ checkBoth s t }
+    ensures { result ≡ check_both s t }
 {
     if !timestamp::is_accepted(s) {
         return timestamp::check_number(s);
@@ -30,9 +30,9 @@ fn check_both(s: Timestamp, t: Timestamp) -> u32
 }
 
 // -1, 0 or 1, by the instants.
-#[tactic(auto, using(crate::proofs::Answers::both), unfolding(ion::specs::Calls::Order::cmpOf))]
+#[tactic(auto, using(crate::proofs::Answers::both), unfolding(ion::specs::Calls::Order::cmp_of))]
 pub fn cmp(s: Timestamp, t: Timestamp) -> Ordered
-    ensures { result ≡ cmpOf s t }
+    ensures { result ≡ cmp_of s t }
 {
     let n = check_both(s, t);
     if n != 0 {
@@ -48,9 +48,9 @@ pub fn cmp(s: Timestamp, t: Timestamp) -> Ordered
 }
 
 // Whether the instants are equal.
-#[tactic(auto, using(crate::proofs::Answers::both), unfolding(ion::specs::Calls::Order::eqOf))]
+#[tactic(auto, using(crate::proofs::Answers::both), unfolding(ion::specs::Calls::Order::eq_of))]
 pub fn eq(s: Timestamp, t: Timestamp) -> Compared
-    ensures { result ≡ eqOf s t }
+    ensures { result ≡ eq_of s t }
 {
     let n = check_both(s, t);
     if n != 0 {
@@ -66,9 +66,9 @@ pub fn eq(s: Timestamp, t: Timestamp) -> Compared
 }
 
 // Whether the pairs are equal.
-#[tactic(auto, unfolding(ion::specs::Calls::Order::ionEqOf))]
+#[tactic(auto, unfolding(ion::specs::Calls::Order::ion_eq_of))]
 pub fn ion_eq(s: Timestamp, t: Timestamp) -> Compared
-    ensures { result ≡ ionEqOf s t }
+    ensures { result ≡ ion_eq_of s t }
 {
     let n = check_both(s, t);
     if n != 0 {
@@ -84,9 +84,9 @@ pub fn ion_eq(s: Timestamp, t: Timestamp) -> Compared
 }
 
 // -1, 0 or 1, by the packed words and then by the attoseconds.
-#[tactic(auto, unfolding(ion::specs::Calls::Order::ionCmpOf))]
+#[tactic(auto, unfolding(ion::specs::Calls::Order::ion_cmp_of))]
 pub fn ion_cmp(s: Timestamp, t: Timestamp) -> Ordered
-    ensures { result ≡ ionCmpOf s t }
+    ensures { result ≡ ion_cmp_of s t }
 {
     let n = check_both(s, t);
     if n != 0 {
@@ -104,9 +104,9 @@ pub fn ion_cmp(s: Timestamp, t: Timestamp) -> Ordered
 }
 
 // The sign of the first less the second, and the size of the difference.
-#[tactic(auto, using(crate::proofs::Answers::both), unfolding(ion::specs::Calls::Order::distanceOf))]
+#[tactic(auto, using(crate::proofs::Answers::both), unfolding(ion::specs::Calls::Order::distance_of))]
 pub fn distance(s: Timestamp, t: Timestamp) -> Distance
-    ensures { result ≡ distanceOf s t }
+    ensures { result ≡ distance_of s t }
 {
     let n = check_both(s, t);
     if n != 0 {

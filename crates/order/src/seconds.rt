@@ -1,11 +1,11 @@
 // Whole seconds of two timestamps by the local clock of the first: the difference of their offsets is added to the second.
 ghost use Rattle.std.specs.Prelude.{◌≡◌, ◌+◌, ◌*◌, ◌^◌, ◌<◌, nat_abs};
-ghost use Rattle.ion.specs.Calls.Accepted.{timeIn, Accepted};
-ghost use Rattle.ion.specs.Pair.Pair.{wordIn};
-ghost use Rattle.ion.specs.Pair.Count.{countOf};
-ghost use Rattle.ion.specs.Calendar.Shift.{minuteNumber};
-ghost use Rattle.ion.specs.Pair.Word.{fieldsOf};
-ghost use Rattle.order.specs.Local.{IsLocalFields, secondsAt, offsetDifference, secondsOfBoth};
+ghost use Rattle.ion.specs.Calls.Accepted.{time_in, Accepted};
+ghost use Rattle.ion.specs.Pair.Pair.{word_in};
+ghost use Rattle.ion.specs.Pair.Count.{count_of};
+ghost use Rattle.ion.specs.Calendar.Shift.{minute_number};
+ghost use Rattle.ion.specs.Pair.Word.{fields_of};
+ghost use Rattle.order.specs.Local.{IsLocalFields, seconds_at, offset_difference, seconds_of_both};
 
 use ion::{Date, Fields, Timestamp, offset};
 
@@ -20,7 +20,7 @@ pub(crate) struct Seconds {
 #[tactic(auto, using(crate::proofs::Clocks::minutes_below))]
 fn minute_number(f: Fields) -> u64
     requires { IsLocalFields f }
-    ensures value { result ≡ minuteNumber (timeIn f) }
+    ensures value { result ≡ minute_number (time_in f) }
     ensures bound { result < 2 ^ 33 }
 {
     let date = Date {
@@ -34,7 +34,7 @@ fn minute_number(f: Fields) -> u64
 // How many minutes the local clock of the first is ahead of that of the second.
 fn offset_difference(f: Fields, g: Fields) -> i32
     requires { IsLocalFields f × IsLocalFields g }
-    ensures { result ≡ offsetDifference f g }
+    ensures { result ≡ offset_difference f g }
 {
     let o = offset::minutes_of(offset::offset_of(f.offset));
     let p = offset::minutes_of(offset::offset_of(g.offset));
@@ -45,7 +45,7 @@ fn offset_difference(f: Fields, g: Fields) -> i32
 #[tactic(auto, using(crate::proofs::Clocks::moved))]
 fn seconds_at(f: Fields, ahead: i32) -> u64
     requires { IsLocalFields f × (nat_abs ahead < 2880) }
-    ensures { result ≡ secondsAt f ahead }
+    ensures { result ≡ seconds_at f ahead }
 {
     let minutes = (minute_number(f) as i64 + ahead as i64) as u64;
     minutes * 60 + f.second as u64
@@ -55,7 +55,7 @@ fn seconds_at(f: Fields, ahead: i32) -> u64
 #[tactic(auto, using(crate::proofs::Clocks::ahead))]
 pub(crate) fn seconds_of_both(s: Timestamp, t: Timestamp) -> Seconds
     requires { Accepted s × Accepted t }
-    ensures { result ≡ secondsOfBoth (fieldsOf (wordIn s)) (fieldsOf (wordIn t)) }
+    ensures { result ≡ seconds_of_both (fields_of (word_in s)) (fields_of (word_in t)) }
 {
     let f = packed::unpack(s.packed_fields);
     let g = packed::unpack(t.packed_fields);
@@ -67,10 +67,10 @@ pub(crate) fn seconds_of_both(s: Timestamp, t: Timestamp) -> Seconds
 }
 
 // Those of an accepted timestamp's count, in UTC.
-#[tactic(auto, using(crate::proofs::Clocks::in_utc), unfolding(ion::specs::Pair::Count::countOf))]
+#[tactic(auto, using(crate::proofs::Clocks::in_utc), unfolding(ion::specs::Pair::Count::count_of))]
 pub fn utc_seconds(s: Timestamp) -> u64
     requires { Accepted s }
-    ensures { result * 10 ^ 18 + s.attoseconds ≡ countOf s }
+    ensures { result * 10 ^ 18 + s.attoseconds ≡ count_of s }
 {
     let f = packed::unpack(s.packed_fields);
     let o = offset::minutes_of(offset::offset_of(f.offset));

@@ -6,55 +6,55 @@ use native.Mathlib.Nat.{add-zero}
 use native.Mathlib.Omega.{arith}
 use lib.ListN.{length, length-append, length-drop, take, drop, take-append-drop}
 use lib.Seq.{drop-drop, take_at, drop-append-le}
-use Rattle.places.specs.Padded.{lastBytes}
+use Rattle.places.specs.Padded.{last_bytes}
 use Rattle.ion.specs.Calls.Output.{over, Run, Between}
-use Rattle.output.proofs.Stores.{take-over, drop-there, over-over, over-before, length-over}
+use Rattle.output.proofs.Stores.{take_over, drop_there, over_over, over_before, length_over}
 
-pub run-none : (d : List ℕ) (at : ℕ) → Run d at [] d at
-run-none d at = record { bytes = rw (add-zero at) (sym (take-append-drop at d)); next = omega arith }
+pub run_none : (d : List ℕ) (at : ℕ) → Run d at [] d at
+run_none d at = record { bytes = rw (add-zero at) (sym (take-append-drop at d)); next = omega arith }
 
-pub run-two : {d e f : List ℕ} {a b c : ℕ} {s t : List ℕ} → Run d a s e b → Run e b t f c → c ≤ length d → Run d a (s ++ t) f c
-run-two {d} {e} {f} {a} {b} {c} {s} {t} g h l =
+pub run_two : {d e f : List ℕ} {a b c : ℕ} {s t : List ℕ} → Run d a s e b → Run e b t f c → c ≤ length d → Run d a (s ++ t) f c
+run_two {d} {e} {f} {a} {b} {c} {s} {t} g h l =
     let n = length s in
     let x : over e b t ≡ over (over d a s) (a + n) t = ap₂ (λ (y : List ℕ) (k : ℕ). over y k t) g.bytes g.next in
     record {
-      bytes = h.bytes ∙ x ∙ over-over d a s t n refl (omega (arith, g.next, h.next));
+      bytes = h.bytes ∙ x ∙ over_over d a s t n refl (omega (arith, g.next, h.next));
       next = omega (arith, g.next, h.next, length-append s t);
     }
 
 -- the second put first
-pub run-before : {d e f : List ℕ} {a b c r : ℕ} {s t : List ℕ} → Run d b t e c → Run e a s f r → b ≡ a + length s → c ≤ length d
+pub run_before : {d e f : List ℕ} {a b c r : ℕ} {s t : List ℕ} → Run d b t e c → Run e a s f r → b ≡ a + length s → c ≤ length d
     → Run d a (s ++ t) f c
-run-before {d} {e} {f} {a} {b} {c} {r} {s} {t} g h q l =
+run_before {d} {e} {f} {a} {b} {c} {r} {s} {t} g h q l =
     let x : over e a s ≡ over (over d (a + length s) t) a s = ap (λ (y : List ℕ). over y a s) (g.bytes ∙ ap (λ (k : ℕ). over d k t) q) in
     record {
-      bytes = h.bytes ∙ x ∙ over-before d a s t (length s) refl (omega (arith, g.next));
+      bytes = h.bytes ∙ x ∙ over_before d a s t (length s) refl (omega (arith, g.next));
       next = omega (arith, g.next, length-append s t);
     }
 
-pub run-is : {d e : List ℕ} {a c : ℕ} {s t : List ℕ} → Run d a s e c → s ≡ t → Run d a t e c
-run-is {d} {e} {a} {c} {s} {t} g q = record { bytes = g.bytes ∙ ap (over d a) q; next = g.next ∙ ap (λ (l : List ℕ). a + length l) q }
+pub run_is : {d e : List ℕ} {a c : ℕ} {s t : List ℕ} → Run d a s e c → s ≡ t → Run d a t e c
+run_is {d} {e} {a} {c} {s} {t} g q = record { bytes = g.bytes ∙ ap (over d a) q; next = g.next ∙ ap (λ (l : List ℕ). a + length l) q }
 
 -- what stands before the end
-pub run-front : {d e : List ℕ} {a c : ℕ} {s : List ℕ} → Run d a s e c → a ≤ length d → take c e ≡ take a d ++ s
-run-front {d} {e} {a} {c} {s} g h = ap₂ take g.next g.bytes ∙ take-over d a s (length s) refl h
+pub run_front : {d e : List ℕ} {a c : ℕ} {s : List ℕ} → Run d a s e c → a ≤ length d → take c e ≡ take a d ++ s
+run_front {d} {e} {a} {c} {s} g h = ap₂ take g.next g.bytes ∙ take_over d a s (length s) refl h
 
 -- the last k bytes that were put
-pub run-last : {d e : List ℕ} {a c : ℕ} {s : List ℕ} → Run d a s e c → c ≤ length d → (k : ℕ) → k ≤ length s
-    → Between e (c - k) c (lastBytes k s)
-run-last {d} {e} {a} {c} {s} g l k h =
+pub run_last : {d e : List ℕ} {a c : ℕ} {s : List ℕ} → Run d a s e c → c ≤ length d → (k : ℕ) → k ≤ length s
+    → Between e (c - k) c (last_bytes k s)
+run_last {d} {e} {a} {c} {s} g l k h =
     let r = drop (a + length s) d in
     let j = length s - k in
     let i : c - k ≡ a + j = omega (arith, g.next) in
     let n : c - (c - k) ≡ k = omega (arith, g.next) in
     record {
       from = omega arith;
-      to = rw (g.bytes, length-over d a s (omega (arith, g.next))) l;
+      to = rw (g.bytes, length_over d a s (omega (arith, g.next))) l;
       bytes =
           rw (n, i, g.bytes)
           (ap (take k)
           (sym (drop-drop j a (over d a s))
-          ∙ ap (drop j) (drop-there d a s (omega (arith, g.next)))
+          ∙ ap (drop j) (drop_there d a s (omega (arith, g.next)))
           ∙ drop-append-le j s r (omega arith))
           ∙ take_at (drop j s) r k (length-drop j s ∙ omega arith));
     }
@@ -67,11 +67,11 @@ pub record Room (d : List ℕ) (at : ℕ) (s t u : List ℕ) : Type 0 where
   pub room : at + length u ≤ length d
 
 module _ {d s t u : List ℕ} {at : ℕ} (r : Room d at s t u) where
-  pub room-first : at + length s ≤ length d
-  room-first = omega (arith, r.room, ap length r.is, length-append s t)
+  pub room_first : at + length s ≤ length d
+  room_first = omega (arith, r.room, ap length r.is, length-append s t)
 
-  pub room-next : {e : List ℕ} {b : ℕ} → Run d at s e b → b + length t ≤ length d
-  room-next g = omega (arith, r.room, ap length r.is, length-append s t, g.next)
+  pub room_next : {e : List ℕ} {b : ℕ} → Run d at s e b → b + length t ≤ length d
+  room_next g = omega (arith, r.room, ap length r.is, length-append s t, g.next)
 
-  pub run-both : {e f : List ℕ} {b c : ℕ} → Run d at s e b → Run e b t f c → Run d at u f c
-  run-both g h = run-is (run-two g h (omega (arith, room-next g, h.next))) (sym r.is)
+  pub run_both : {e f : List ℕ} {b c : ℕ} → Run d at s e b → Run e b t f c → Run d at u f c
+  run_both g h = run_is (run_two g h (omega (arith, room_next g, h.next))) (sym r.is)

@@ -2,13 +2,13 @@
 #![tactic(auto)]
 
 ghost use Rattle.std.specs.Prelude.{◌≡◌, ◌+◌, ◌≤◌, length};
-ghost use Rattle.ion.specs.Calls.Output.{over, put, roomFor, wrote};
+ghost use Rattle.ion.specs.Calls.Output.{over, put, room_for, wrote};
 
 use ion::{Written, refusal};
 
 // What a writer of `n` bytes from index `at` on answers, in a buffer of `size` bytes.
 pub fn room_for(size: usize, at: usize, n: usize) -> Written
-    ensures { result ≡ roomFor size at n }
+    ensures { result ≡ room_for size at n }
 {
     if size < at {
         return Written {

@@ -20,14 +20,14 @@ place hi x k t hx l =
     ∙ or_shifted hi (k + t) (x * 2 ^ t) (shl_lt k t hx)
     ∙ rw (pow-add 2 k t) (omega arith)
 
-ors-above : (ks xs : List ℕ) (hi : ℕ) → Within ks xs → total ks ≤ 64 → ors (hi * 2 ^ total ks) ks xs ≡ hi * 2 ^ total ks + join ks xs
-ors-above [] [] hi h l = omega arith
-ors-above [] (x ∷ xs) hi h l = elim h [ ]
-ors-above (k ∷ ks) [] hi h l = elim h [ ]
-ors-above (k ∷ ks) (x ∷ xs) hi h l =
+ors_above : (ks xs : List ℕ) (hi : ℕ) → Within ks xs → total ks ≤ 64 → ors (hi * 2 ^ total ks) ks xs ≡ hi * 2 ^ total ks + join ks xs
+ors_above [] [] hi h l = omega arith
+ors_above [] (x ∷ xs) hi h l = elim h [ ]
+ors_above (k ∷ ks) [] hi h l = elim h [ ]
+ors_above (k ∷ ks) (x ∷ xs) hi h l =
     ap (λ (n : ℕ). ors n ks xs) (place hi x k (total ks) h.0 l)
-    ∙ ors-above ks xs (hi * 2 ^ k + x) h.1 (omega arith)
+    ∙ ors_above ks xs (hi * 2 ^ k + x) h.1 (omega arith)
     ∙ sym (regroup hi x (join ks xs) k (total ks))
 
-pub ors-join : (ks xs : List ℕ) → Within ks xs → total ks ≤ 64 → ors 0 ks xs ≡ join ks xs
-ors-join ks xs h l = ap (λ (n : ℕ). ors n ks xs) (omega arith) ∙ ors-above ks xs 0 h l ∙ omega arith
+pub ors_join : (ks xs : List ℕ) → Within ks xs → total ks ≤ 64 → ors 0 ks xs ≡ join ks xs
+ors_join ks xs h l = ap (λ (n : ℕ). ors n ks xs) (omega arith) ∙ ors_above ks xs 0 h l ∙ omega arith

@@ -2,9 +2,9 @@
 #![tactic(auto)]
 
 ghost use Rattle.std.specs.Prelude.{◌≡◌, ◌<◌};
-ghost use Rattle.ion.specs.Pair.Layout.{fieldAt};
-ghost use Rattle.ion.specs.Pair.Offset.{rawOffset};
-ghost use Rattle.ion.specs.Pair.Word.{InRange, wordOf, fieldsOf};
+ghost use Rattle.ion.specs.Pair.Layout.{field_at};
+ghost use Rattle.ion.specs.Pair.Offset.{raw_offset};
+ghost use Rattle.ion.specs.Pair.Word.{InRange, word_of, fields_of};
 
 use ion::Fields;
 use ion::offset::RawOffset;
@@ -64,7 +64,7 @@ pub const YEAR_SHIFT: u64 = MONTH_SHIFT + MONTH_BITS;
 
 pub fn pack(f: Fields) -> u64
     requires { InRange f }
-    ensures { result ≡ wordOf f }
+    ensures { result ≡ word_of f }
 {
     let offset = f.offset;
     ((f.year as u64) << YEAR_SHIFT)
@@ -81,68 +81,68 @@ pub fn pack(f: Fields) -> u64
 // The field of `width` bits that has `shift` bits below it.
 fn field(w: u64, shift: u64, width: u64) -> u64
     requires { (shift < 64) × (width < 64) }
-    ensures { result ≡ fieldAt shift width w }
+    ensures { result ≡ field_at shift width w }
 {
     (w >> shift) & ((1 << width) - 1)
 }
 
 pub fn year(w: u64) -> u32
-    ensures { result ≡ fieldAt 50 14 w }
+    ensures { result ≡ field_at 50 14 w }
 {
     field(w, YEAR_SHIFT, YEAR_BITS) as u32
 }
 
 pub fn month(w: u64) -> u32
-    ensures { result ≡ fieldAt 46 4 w }
+    ensures { result ≡ field_at 46 4 w }
 {
     field(w, MONTH_SHIFT, MONTH_BITS) as u32
 }
 
 pub fn day(w: u64) -> u32
-    ensures { result ≡ fieldAt 41 5 w }
+    ensures { result ≡ field_at 41 5 w }
 {
     field(w, DAY_SHIFT, DAY_BITS) as u32
 }
 
 pub fn hour(w: u64) -> u32
-    ensures { result ≡ fieldAt 36 5 w }
+    ensures { result ≡ field_at 36 5 w }
 {
     field(w, HOUR_SHIFT, HOUR_BITS) as u32
 }
 
 pub fn minute(w: u64) -> u32
-    ensures { result ≡ fieldAt 30 6 w }
+    ensures { result ≡ field_at 30 6 w }
 {
     field(w, MINUTE_SHIFT, MINUTE_BITS) as u32
 }
 
 pub fn second(w: u64) -> u32
-    ensures { result ≡ fieldAt 24 6 w }
+    ensures { result ≡ field_at 24 6 w }
 {
     field(w, SECOND_SHIFT, SECOND_BITS) as u32
 }
 
 pub fn precision(w: u64) -> u32
-    ensures { result ≡ fieldAt 21 3 w }
+    ensures { result ≡ field_at 21 3 w }
 {
     field(w, PRECISION_SHIFT, PRECISION_BITS) as u32
 }
 
 pub fn digits(w: u64) -> u32
-    ensures { result ≡ fieldAt 16 5 w }
+    ensures { result ≡ field_at 16 5 w }
 {
     field(w, SUBSECOND_PRECISION_SHIFT, SUBSECOND_PRECISION_BITS) as u32
 }
 
 pub fn raw_offset(w: u64) -> RawOffset
-    ensures { result ≡ rawOffset (fieldAt 4 12 w) }
+    ensures { result ≡ raw_offset (field_at 4 12 w) }
 {
     RawOffset::new(field(w, OFFSET_SHIFT, OFFSET_BITS) as u16)
 }
 
-#[tactic(auto, unfolding(ion::specs::Pair::Word::fieldsOf))]
+#[tactic(auto, unfolding(ion::specs::Pair::Word::fields_of))]
 pub fn unpack(w: u64) -> Fields
-    ensures { result ≡ fieldsOf w }
+    ensures { result ≡ fields_of w }
 {
     Fields {
         year: year(w),

@@ -7,18 +7,18 @@ use native.Mathlib.Nat.{mul-le-mul_right, le-add_right, le-mul_of_pos_right, lt_
 use native.Mathlib.Omega.{arith}
 use lib.Arith.{digits_lt, digits_div, digits_mod}
 use lib.ListN.{length}
-use Rattle.places.specs.Places.{plain, placesOn, places, valueFrom}
+use Rattle.places.specs.Places.{plain, places_on, places, value_from}
 use Rattle.places.proofs.Below.{Below}
 
 -- one power more
-power-more : (b v n : ℕ) → v * b ^ suc n ≡ v * b * b ^ n
-power-more b v n = ap (λ (x : ℕ). v * x) (pow-succ' b n) ∙ sym (mul_assoc v b (b ^ n))
+power_more : (b v n : ℕ) → v * b ^ suc n ≡ v * b * b ^ n
+power_more b v n = ap (λ (x : ℕ). v * x) (pow-succ' b n) ∙ sym (mul_assoc v b (b ^ n))
 
 module _ (b : ℕ) where
   -- a place in front of r is the lowest of one place more
-  pub place-more : (f : ℕ → ℕ) (k v d : ℕ) (r : List ℕ) → d < b → placesOn b f k v (f d ∷ r) ≡ placesOn b f (suc k) (v * b + d) r
-  unfolding placesOn
-  place-more f k v d r h = rw (digits_div v h, digits_mod v h)
+  pub place_more : (f : ℕ → ℕ) (k v d : ℕ) (r : List ℕ) → d < b → places_on b f k v (f d ∷ r) ≡ places_on b f (suc k) (v * b + d) r
+  unfolding places_on
+  place_more f k v d r h = rw (digits_div v h, digits_mod v h)
 
   -- ---- bytes that f makes of places, the place of each told by g
 
@@ -28,51 +28,51 @@ module _ (b : ℕ) where
     Bytes (c ∷ r) = ((g c < b) × (f (g c) ≡ c)) × Bytes r
 
     -- a list of places is that of the number that they make
-    places-value : (k v : ℕ) (s t : List ℕ) → Bytes s → placesOn b f (k + length s) (valueFrom b g v s) t ≡ placesOn b f k v (s ++ t)
-    unfolding valueFrom
-    places-value k v [] t h = ap (λ (n : ℕ). placesOn b f n v t) (add-zero k)
-    places-value k v (c ∷ r) t h =
+    places_value : (k v : ℕ) (s t : List ℕ) → Bytes s → places_on b f (k + length s) (value_from b g v s) t ≡ places_on b f k v (s ++ t)
+    unfolding value_from
+    places_value k v [] t h = ap (λ (n : ℕ). places_on b f n v t) (add-zero k)
+    places_value k v (c ∷ r) t h =
         let e : k + suc (length r) ≡ suc k + length r = omega arith in
-        ap (λ (n : ℕ). placesOn b f n (valueFrom b g (v * b + g c) r) t) e
-        ∙ places-value (suc k) (v * b + g c) r t h.1
-        ∙ sym (place-more f k v (g c) (r ++ t) h.0.0)
-        ∙ ap (λ (x : ℕ). placesOn b f k v (x ∷ r ++ t)) h.0.1
+        ap (λ (n : ℕ). places_on b f n (value_from b g (v * b + g c) r) t) e
+        ∙ places_value (suc k) (v * b + g c) r t h.1
+        ∙ sym (place_more f k v (g c) (r ++ t) h.0.0)
+        ∙ ap (λ (x : ℕ). places_on b f k v (x ∷ r ++ t)) h.0.1
 
-    pub bytes-are : (s : List ℕ) → Bytes s → places b f (length s) (valueFrom b g 0 s) ≡ s
-    unfolding places placesOn
-    bytes-are s h =
-        ap (λ (n : ℕ). placesOn b f n (valueFrom b g 0 s) []) (sym (zero-add (length s)))
-        ∙ places-value 0 0 s [] h
+    pub bytes_are : (s : List ℕ) → Bytes s → places b f (length s) (value_from b g 0 s) ≡ s
+    unfolding places places_on
+    bytes_are s h =
+        ap (λ (n : ℕ). places_on b f n (value_from b g 0 s) []) (sym (zero-add (length s)))
+        ∙ places_value 0 0 s [] h
         ∙ append-nil s
 
     -- they make less than b to their number
-    below-next : (v : ℕ) (s : List ℕ) → Bytes s → valueFrom b g v s < suc v * b ^ length s
-    unfolding valueFrom
-    below-next v [] h = rw (pow-zero b, mul-one) (omega arith)
-    below-next v (c ∷ r) h =
+    below_next : (v : ℕ) (s : List ℕ) → Bytes s → value_from b g v s < suc v * b ^ length s
+    unfolding value_from
+    below_next v [] h = rw (pow-zero b, mul-one) (omega arith)
+    below_next v (c ∷ r) h =
         let p = b ^ length r in
         let l : suc (v * b + g c) ≤ suc v * b = digits_lt (omega arith) h.0.0 in
-        rw (power-more b (suc v) (length r)) (lt_of_lt_of_le (below-next (v * b + g c) r h.1) (mul-le-mul_right p l))
+        rw (power_more b (suc v) (length r)) (lt_of_lt_of_le (below_next (v * b + g c) r h.1) (mul-le-mul_right p l))
 
-    pub bytes-below : (s : List ℕ) → Bytes s → valueFrom b g 0 s < b ^ length s
-    bytes-below s h = rw (one-mul (b ^ length s)) at (below-next 0 s h)
+    pub bytes_below : (s : List ℕ) → Bytes s → value_from b g 0 s < b ^ length s
+    bytes_below s h = rw (one-mul (b ^ length s)) at (below_next 0 s h)
 
   -- ---- places that are their own bytes
 
-  plain-bytes : (s : List ℕ) → Below b s → Bytes plain plain s
-  plain-bytes [] h = tt
-  plain-bytes (d ∷ r) h = ((h 0, refl), plain-bytes r (λ i. h (suc i)))
+  plain_bytes : (s : List ℕ) → Below b s → Bytes plain plain s
+  plain_bytes [] h = tt
+  plain_bytes (d ∷ r) h = ((h 0, refl), plain_bytes r (λ i. h (suc i)))
 
-  pub value-is : (s : List ℕ) → Below b s → places b plain (length s) (valueFrom b plain 0 s) ≡ s
-  value-is s h = bytes-are plain plain s (plain-bytes s h)
+  pub value_is : (s : List ℕ) → Below b s → places b plain (length s) (value_from b plain 0 s) ≡ s
+  value_is s h = bytes_are plain plain s (plain_bytes s h)
 
   -- places below those of v make at least v of them
-  value-least : (v : ℕ) (s : List ℕ) → v * b ^ length s ≤ valueFrom b plain v s
-  unfolding valueFrom
-  value-least v [] = le_of_eq (ap (λ (x : ℕ). v * x) (pow-zero b) ∙ mul-one v)
-  value-least v (d ∷ r) =
+  value_least : (v : ℕ) (s : List ℕ) → v * b ^ length s ≤ value_from b plain v s
+  unfolding value_from
+  value_least v [] = le_of_eq (ap (λ (x : ℕ). v * x) (pow-zero b) ∙ mul-one v)
+  value_least v (d ∷ r) =
       let p = b ^ length r in
-      le_trans (le_of_eq (power-more b v (length r))) (le_trans (mul-le-mul_right p (le-add_right (v * b) d)) (value-least (v * b + d) r))
+      le_trans (le_of_eq (power_more b v (length r))) (le_trans (mul-le-mul_right p (le-add_right (v * b) d)) (value_least (v * b + d) r))
 
-  pub value-above : 0 < b → (v : ℕ) (s : List ℕ) → v ≤ valueFrom b plain v s
-  value-above h v s = le_trans (le-mul_of_pos_right v (one-le-pow (length s) b h)) (value-least v s)
+  pub value_above : 0 < b → (v : ℕ) (s : List ℕ) → v ≤ value_from b plain v s
+  value_above h v s = le_trans (le-mul_of_pos_right v (one-le-pow (length s) b h)) (value_least v s)

@@ -1,7 +1,7 @@
 // The reader of a scan: tag and guard, then the timestamp's value.
 ghost use Rattle.std.specs.Prelude.{◌≡◌};
-ghost use Rattle.scans.specs.Number.{refusedNumber, readNumber};
-ghost use Rattle.scans.specs.Scan.{refusedScan, readScan};
+ghost use Rattle.scans.specs.Number.{refused_number, read_number};
+ghost use Rattle.scans.specs.Scan.{refused_scan, read_scan};
 
 use binary::var_uint;
 use ion::{Timestamp, VarUIntRead, refusal};
@@ -11,7 +11,7 @@ use scans::{NumberRead, Scan, ScanRead};
 const MAX_NUMBER: u64 = 4_294_967_295;
 
 fn refused_number(number: u32) -> NumberRead
-    ensures { result ≡ refusedNumber number }
+    ensures { result ≡ refused_number number }
 {
     NumberRead {
         number: number,
@@ -21,9 +21,9 @@ fn refused_number(number: u32) -> NumberRead
 }
 
 // Reads the tag or the guard with which `s` begins.
-#[tactic(auto, using(scan_laws::proofs::Numbers::found), unfolding(scans::specs::Number::readNumber))]
+#[tactic(auto, using(scan_laws::proofs::Numbers::found), unfolding(scans::specs::Number::read_number))]
 fn read_number(s: &[u8]) -> NumberRead
-    ensures { result ≡ readNumber s.now }
+    ensures { result ≡ read_number s.now }
 {
     match var_uint::read_u64(s, 0, MAX_NUMBER) {
         VarUIntRead::Value(v, n) => NumberRead {
@@ -37,7 +37,7 @@ fn read_number(s: &[u8]) -> NumberRead
 }
 
 fn refused(number: u32) -> ScanRead
-    ensures { result ≡ refusedScan number }
+    ensures { result ≡ refused_scan number }
 {
     ScanRead {
         number: number,
@@ -55,7 +55,7 @@ fn refused(number: u32) -> ScanRead
 
 // Reads the scan with which `s` begins. Bytes after it are not read.
 pub fn read_scan(s: &[u8]) -> ScanRead
-    ensures { result ≡ readScan s.now }
+    ensures { result ≡ read_scan s.now }
 {
     // The tag has a part of its own too: `s` handed on as it came would go through memory.
     let tag = read_number(&s[0..]);

@@ -1,8 +1,8 @@
 // The writer of a scan. Its value is gathered in an array, since its length is not known before.
 ghost use Rattle.std.specs.Prelude.{◌++◌, ◌≡◌};
 ghost use Rattle.ion.specs.Numbers.VarUInt.{varuint};
-ghost use Rattle.ion.specs.Calls.Output.{put, wrote, putAfter, wroteAfter};
-ghost use Rattle.scans.specs.Scan.{scanBytes, scanNumber};
+ghost use Rattle.ion.specs.Calls.Output.{put, wrote, put_after, wrote_after};
+ghost use Rattle.scans.specs.Scan.{scan_bytes, scan_number};
 
 use binary::var_uint;
 use ion::Written;
@@ -27,8 +27,8 @@ fn put_parts(buf: &mut [u8], at: usize, tag: u32, guard: u32, value: &[u8]) -> W
 
 // Writes a scan from index `at` on.
 pub fn write_scan(buf: &mut [u8], at: usize, scan: Scan) -> Written
-    ensures value { result ≡ wroteAfter (scanNumber scan) buf.old at (scanBytes scan) }
-    ensures buffer { buf.new ≡ putAfter (scanNumber scan) buf.old at (scanBytes scan) }
+    ensures value { result ≡ wrote_after (scan_number scan) buf.old at (scan_bytes scan) }
+    ensures buffer { buf.new ≡ put_after (scan_number scan) buf.old at (scan_bytes scan) }
 {
     let stamp = scan.stamp;
     let number = timestamp::check_number(stamp);

@@ -3,14 +3,14 @@ use Rattle.std.proofs.Common.{◌≡◌, sym, ◌∙◌, ℕ, ◌+◌, ◌*◌, 
 use native.Mathlib.Decide.{dec_lt}
 use Rattle.std.proofs.lemmas.Int.{ints}
 use borrow.Author.Tests.{lt-ltb, le-ltb, eq-eqb, ne_eqb}
-use Rattle.ion.specs.Calls.Order.{sizeOfDifference}
-use Rattle.scans.specs.Tally.{seconds, kindBeside}
+use Rattle.ion.specs.Calls.Order.{size_of_difference}
+use Rattle.scans.specs.Tally.{seconds, kind_beside}
 use Rattle.scans.specs.declared.Kind.{Kind}
 use Rattle.scans.specs.declared.Kind.TheVariants.{Double, Kept, Gap, Backward}
 
 -- by whether it is earlier, and by the size of the distance in seconds and attoseconds
-abbrev pub kindAt : ℕ → ℕ → Bool → ℕ → ℕ → Kind
-kindAt w g earlier q r = cond (ltb q w) Double (cond earlier Backward (cond (ltb g q || (eqb q g && ltb 0 r)) Gap Kept))
+abbrev pub kind_at : ℕ → ℕ → Bool → ℕ → ℕ → Kind
+kind_at w g earlier q r = cond (ltb q w) Double (cond earlier Backward (cond (ltb g q || (eqb q g && ltb 0 r)) Gap Kept))
 
 -- less than w seconds
 less : (n w : ℕ) → ltb n (w * 10 ^ 18) ≡ ltb (n / 10 ^ 18) w
@@ -37,20 +37,21 @@ more n g = go (dec_lt g (n / 10 ^ 18)) (dec_lt (g * 10 ^ 18) n) (dec_lt (n / 10 
         (le-ltb (g * 10 ^ 18) n (omega arith))
 
 -- counted from the last kept one
-after-last : (m n g : ℕ) → m ≤ n → ltb (m + g * 10 ^ 18) n ≡ ltb (g * 10 ^ 18) (sizeOfDifference n m)
-after-last m n g h = go (dec_lt (m + g * 10 ^ 18) n)
+after_last : (m n g : ℕ) → m ≤ n → ltb (m + g * 10 ^ 18) n ≡ ltb (g * 10 ^ 18) (size_of_difference n m)
+after_last m n g h = go (dec_lt (m + g * 10 ^ 18) n)
   where
-    go : Dec (m + g * 10 ^ 18 < n) → ltb (m + g * 10 ^ 18) n ≡ ltb (g * 10 ^ 18) (sizeOfDifference n m)
-    go (yes l) = lt-ltb (m + g * 10 ^ 18) n l ∙ sym (lt-ltb (g * 10 ^ 18) (sizeOfDifference n m) (omega (arith, ints)))
-    go (no l) = le-ltb (m + g * 10 ^ 18) n (omega arith) ∙ sym (le-ltb (g * 10 ^ 18) (sizeOfDifference n m) (omega (arith, ints)))
+    go : Dec (m + g * 10 ^ 18 < n) → ltb (m + g * 10 ^ 18) n ≡ ltb (g * 10 ^ 18) (size_of_difference n m)
+    go (yes l) = lt-ltb (m + g * 10 ^ 18) n l ∙ sym (lt-ltb (g * 10 ^ 18) (size_of_difference n m) (omega (arith, ints)))
+    go (no l) = le-ltb (m + g * 10 ^ 18) n (omega arith) ∙ sym (le-ltb (g * 10 ^ 18) (size_of_difference n m) (omega (arith, ints)))
 
-pub kind-by-distance : (w g m n : ℕ)
-    → kindBeside w g m n ≡ kindAt w g (ltb n m) (sizeOfDifference n m / 10 ^ 18) (sizeOfDifference n m % 10 ^ 18)
-unfolding kindBeside
-kind-by-distance w g m n = go (dec_lt n m)
+pub kind_by_distance : (w g m n : ℕ)
+    → kind_beside w g m n ≡ kind_at w g (ltb n m) (size_of_difference n m / 10 ^ 18) (size_of_difference n m % 10 ^ 18)
+unfolding kind_beside
+kind_by_distance w g m n = go (dec_lt n m)
   where
     go : Dec (n < m)
-        → cond (ltb (sizeOfDifference n m) (seconds w)) Double (cond (ltb n m) Backward (cond (ltb (m + seconds g) n) Gap Kept))
-        ≡ kindAt w g (ltb n m) (sizeOfDifference n m / 10 ^ 18) (sizeOfDifference n m % 10 ^ 18)
-    go (yes h) = rw (lt-ltb n m h, less (sizeOfDifference n m) w)
-    go (no h) = rw (le-ltb n m (omega arith), less (sizeOfDifference n m) w, after-last m n g (omega arith), more (sizeOfDifference n m) g)
+        → cond (ltb (size_of_difference n m) (seconds w)) Double (cond (ltb n m) Backward (cond (ltb (m + seconds g) n) Gap Kept))
+        ≡ kind_at w g (ltb n m) (size_of_difference n m / 10 ^ 18) (size_of_difference n m % 10 ^ 18)
+    go (yes h) = rw (lt-ltb n m h, less (size_of_difference n m) w)
+    go (no h) =
+        rw (le-ltb n m (omega arith), less (size_of_difference n m) w, after_last m n g (omega arith), more (size_of_difference n m) g)

@@ -2,72 +2,73 @@
 use Rattle.std.proofs.Common.{◌≡◌, sym, ap, ◌∙◌, ℕ, ◌≤◌, ◌<◌, List, length}
 use borrow.Author.Tests.{lt-ltb, le-ltb}
 use native.Mathlib.Decide.{ℕ_discrete}
-use Rattle.ion.specs.Calls.Refusal.{wordsRefused, windowRefused}
+use Rattle.ion.specs.Calls.Refusal.{words_refused, window_refused}
 use Rattle.ion.specs.Calls.Answered.{answered}
-use Rattle.ion.proofs.Answers.{answered-zero, answered-refused}
-use Rattle.scans.specs.Report.{wordCount, longestWindow, wordsOver, fileTally, lentNumber, fileNumber, reportNumber}
-use Rattle.scans.specs.Report.{reported, refusedReport, reportOf, wordsAfter}
+use Rattle.ion.proofs.Answers.{answered_zero, answered_refused}
+use Rattle.scans.specs.Report.{word_count, longest_window, words_over, file_tally, lent_number, file_number, report_number}
+use Rattle.scans.specs.Report.{reported, refused_report, report_of, words_after}
 use Rattle.scans.specs.declared.Scan.{Scan}
 use Rattle.scans.specs.declared.Report.{Report}
 
 -- ---- the number of what is lent
 
 module _ (size w : ℕ) where
-  pub few-words : size < wordCount → lentNumber size w ≡ wordsRefused
-  unfolding lentNumber
-  few-words h = simp (lt-ltb size wordCount h)
+  pub few_words : size < word_count → lent_number size w ≡ words_refused
+  unfolding lent_number
+  few_words h = simp (lt-ltb size word_count h)
 
-  module _ (h : wordCount ≤ size) where
-    pub long-window : longestWindow < w → lentNumber size w ≡ windowRefused
-    unfolding lentNumber
-    long-window k = simp (le-ltb size wordCount h, lt-ltb longestWindow w k)
+  module _ (h : word_count ≤ size) where
+    pub long_window : longest_window < w → lent_number size w ≡ window_refused
+    unfolding lent_number
+    long_window k = simp (le-ltb size word_count h, lt-ltb longest_window w k)
 
-    pub lent-enough : w ≤ longestWindow → lentNumber size w ≡ 0
-    unfolding lentNumber
-    lent-enough k = simp (le-ltb size wordCount h, le-ltb longestWindow w k)
+    pub lent_enough : w ≤ longest_window → lent_number size w ≡ 0
+    unfolding lent_number
+    lent_enough k = simp (le-ltb size word_count h, le-ltb longest_window w k)
 
 module _ (d : List ℕ) (w g : ℕ) (s : List ℕ) where
   -- ---- refused before reading
 
-  module _ {n : ℕ} (e : lentNumber (length d) w ≡ n) (z : n ≡ 0 → ⊥) where
-    first : reportNumber (length d) w g s ≡ n
-    first = answered-refused (lentNumber (length d) w) (fileNumber w g s) (λ m. m) (λ q. z (sym e ∙ q)) ∙ e
+  module _ {n : ℕ} (e : lent_number (length d) w ≡ n) (z : n ≡ 0 → ⊥) where
+    first : report_number (length d) w g s ≡ n
+    first = answered_refused (lent_number (length d) w) (file_number w g s) (λ m. m) (λ q. z (sym e ∙ q)) ∙ e
 
-    pub report-unread : {r : Report} → r ≡ refusedReport n → r ≡ reportOf d w g s
-    unfolding reportOf
-    report-unread h = h ∙ sym (answered-refused _ _ refusedReport (λ q. z (sym first ∙ q)) ∙ ap refusedReport first)
+    pub report_unread : {r : Report} → r ≡ refused_report n → r ≡ report_of d w g s
+    unfolding report_of
+    report_unread h = h ∙ sym (answered_refused _ _ refused_report (λ q. z (sym first ∙ q)) ∙ ap refused_report first)
 
-    pub words-unread : d ≡ wordsAfter d w g s
-    unfolding wordsAfter
-    words-unread = sym (answered-refused _ _ (λ m. d) (λ q. z (sym first ∙ q)))
+    pub words_unread : d ≡ words_after d w g s
+    unfolding words_after
+    words_unread = sym (answered_refused _ _ (λ m. d) (λ q. z (sym first ∙ q)))
 
   -- ---- read
 
-  module _ (e : lentNumber (length d) w ≡ 0) where
-    second : reportNumber (length d) w g s ≡ fileNumber w g s
-    second = answered-zero (lentNumber (length d) w) (fileNumber w g s) (λ m. m) e
+  module _ (e : lent_number (length d) w ≡ 0) where
+    second : report_number (length d) w g s ≡ file_number w g s
+    second = answered_zero (lent_number (length d) w) (file_number w g s) (λ m. m) e
 
-    module _ {r : Report} (h : r ≡ answered (fileNumber w g s) (reported (fileTally w g s).counts) refusedReport) where
-      pub report-read : r ≡ reportOf d w g s
-      unfolding reportOf
-      report-read = h ∙ ap (λ (n : ℕ). answered n (reported (fileTally w g s).counts) refusedReport) (sym second)
+    module _ {r : Report} (h : r ≡ answered (file_number w g s) (reported (file_tally w g s).counts) refused_report) where
+      pub report_read : r ≡ report_of d w g s
+      unfolding report_of
+      report_read = h ∙ ap (λ (n : ℕ). answered n (reported (file_tally w g s).counts) refused_report) (sym second)
 
-      number-is : r.number ≡ fileNumber w g s
-      number-is = ap (λ (r : Report). r.number) h ∙ go (ℕ_discrete (fileNumber w g s) 0)
+      number_is : r.number ≡ file_number w g s
+      number_is = ap (λ (r : Report). r.number) h ∙ go (ℕ_discrete (file_number w g s) 0)
         where
-          go : Dec (fileNumber w g s ≡ 0)
-              → (answered (fileNumber w g s) (reported (fileTally w g s).counts) refusedReport).number ≡ fileNumber w g s
-          go (yes q) = ap (λ (r : Report). r.number) (answered-zero (fileNumber w g s) _ refusedReport q) ∙ sym q
+          go : Dec (file_number w g s ≡ 0)
+              → (answered (file_number w g s) (reported (file_tally w g s).counts) refused_report).number ≡ file_number w g s
+          go (yes q) = ap (λ (r : Report). r.number) (answered_zero (file_number w g s) _ refused_report q) ∙ sym q
           go (no q) =
-              ap (λ (r : Report). r.number) (answered-refused (fileNumber w g s) (reported (fileTally w g s).counts) refusedReport q)
+              ap (λ (r : Report). r.number) (answered_refused (file_number w g s) (reported (file_tally w g s).counts) refused_report q)
 
-      pub words-read : (l : List Scan) {f : List ℕ} → r.number ≡ 0 → (fileNumber w g s ≡ 0 → l ≡ (fileTally w g s).last) → f ≡ wordsOver d l
-          → f ≡ wordsAfter d w g s
-      unfolding wordsAfter
-      words-read l z last over =
-          let q = sym number-is ∙ z in
-          over ∙ ap (wordsOver d) (last q) ∙ sym (answered-zero _ (wordsOver d (fileTally w g s).last) (λ m. d) (second ∙ q))
+      pub words_read : (l : List Scan) {f : List ℕ} → r.number ≡ 0 → (file_number w g s ≡ 0 → l ≡ (file_tally w g s).last)
+          → f ≡ words_over d l
+          → f ≡ words_after d w g s
+      unfolding words_after
+      words_read l z last over =
+          let q = sym number_is ∙ z in
+          over ∙ ap (words_over d) (last q) ∙ sym (answered_zero _ (words_over d (file_tally w g s).last) (λ m. d) (second ∙ q))
 
-      pub words-refused : (r.number ≡ 0 → ⊥) → d ≡ wordsAfter d w g s
-      unfolding wordsAfter
-      words-refused z = sym (answered-refused _ _ (λ m. d) (λ q. z (number-is ∙ sym second ∙ q)))
+      pub words_refused_lem : (r.number ≡ 0 → ⊥) → d ≡ words_after d w g s
+      unfolding words_after
+      words_refused_lem z = sym (answered_refused _ _ (λ m. d) (λ q. z (number_is ∙ sym second ∙ q)))

@@ -2,68 +2,68 @@
 use Rattle.std.proofs.Common.{◌≡◌, refl, sym, ap, ◌∙◌, ℕ, ◌+◌, ◌-◌, ◌≤◌, ◌<◌}
 use Rattle.std.proofs.Common.{List, [], ◌∷◌, ◌++◌, length, take, drop, length-append, subst, arith}
 use borrow.Author.Tests.{lt-ltb, le-ltb}
-use Rattle.places.proofs.Below.{Below, below-drop}
-use Rattle.ion.specs.Calls.Refusal.{tagsRefused}
+use Rattle.places.proofs.Below.{Below, below_drop}
+use Rattle.ion.specs.Calls.Refusal.{tags_refused}
 use Rattle.ion.specs.Calls.Accepted.{Accepted}
 use Rattle.ion.specs.Calls.Answered.{answered}
-use Rattle.ion.specs.Calls.Contents.{Contents, contentsWith, contents}
-use Rattle.ion.proofs.Answers.{answered-zero, answered-refused}
-use Rattle.contents.proofs.Passing.{Passed, pass-start, pass-end}
-use Rattle.scans.specs.Scan.{readScan}
-use Rattle.scans.specs.File.{scanReader, contentsOf}
-use Rattle.scans.specs.Tally.{Tally, noTally, kindOf, noCounts, countsOf, added, lastAfter, placeOf, tallied, tallyOf, tallyFrom}
-use Rattle.scans.specs.Report.{fileTally, fileNumber, reported, refusedReport}
+use Rattle.ion.specs.Calls.Contents.{Contents, contents_with, contents}
+use Rattle.ion.proofs.Answers.{answered_zero, answered_refused}
+use Rattle.contents.proofs.Passing.{Passed, pass_start, pass_end}
+use Rattle.scans.specs.Scan.{read_scan}
+use Rattle.scans.specs.File.{scan_reader, contents_of}
+use Rattle.scans.specs.Tally.{Tally, no_tally, kind_of, no_counts, counts_of, added, last_after, place_of, tallied, tally_of, tally_from}
+use Rattle.scans.specs.Report.{file_tally, file_number, reported, refused_report}
 use Rattle.scans.specs.declared.Scan.{Scan}
 use Rattle.scans.specs.declared.Counts.{Counts}
 use Rattle.scans.specs.declared.ScanRead.{ScanRead}
 use Rattle.scans.specs.declared.Kind.{Kind}
 use Rattle.scans.specs.declared.Kind.TheVariants.{Kept}
-use Rattle.scan_report.proofs.Posts.{after-few}
-use Rattle.scan_report.proofs.Places.{first-kept}
-use Rattle.scan_laws.proofs.Tallies.{place-within, Sums, sums, all-counted, last-new, never-fewer, tally-append, tally-next}
-use Rattle.scan_laws.proofs.Scans.{scan-inverse}
-use Rattle.scan_laws.proofs.Passing.{scan-stop, scan-reads, scan-within, scan-less, scan-next}
+use Rattle.scan_report.proofs.Posts.{after_few}
+use Rattle.scan_report.proofs.Places.{first_kept}
+use Rattle.scan_laws.proofs.Tallies.{place_within, Sums, sums, all_counted, last_new, never_fewer, tally_append, tally_next}
+use Rattle.scan_laws.proofs.Scans.{scan_inverse}
+use Rattle.scan_laws.proofs.Passing.{scan_stop, scan_reads, scan_within, scan_less, scan_next}
 
 -- ---- the number of a file, by what it holds
 
 module _ (w g : ℕ) (s : List ℕ) where
-  number-tags : 256 < length (fileTally w g s).last → fileNumber w g s ≡ tagsRefused
-  unfolding fileNumber
-  number-tags h = simp (lt-ltb 256 (length (fileTally w g s).last) h)
+  number_tags : 256 < length (file_tally w g s).last → file_number w g s ≡ tags_refused
+  unfolding file_number
+  number_tags h = simp (lt-ltb 256 (length (file_tally w g s).last) h)
 
-  module _ {xs : List Scan} {n : ℕ} (e : contentsOf s ≡ contentsWith xs n) (h : length (tallyOf w g xs).last ≤ 256) where
-    few-tags : length (fileTally w g s).last ≤ 256
-    few-tags = subst (λ (c : Contents Scan). length (tallyOf w g c.items).last ≤ 256) (sym e) h
+  module _ {xs : List Scan} {n : ℕ} (e : contents_of s ≡ contents_with xs n) (h : length (tally_of w g xs).last ≤ 256) where
+    few_tags : length (file_tally w g s).last ≤ 256
+    few_tags = subst (λ (c : Contents Scan). length (tally_of w g c.items).last ≤ 256) (sym e) h
 
-    pub number-damage : (n ≡ 0 → ⊥) → fileNumber w g s ≡ n
-    unfolding fileNumber
-    number-damage z =
-        let d : (contentsOf s).number ≡ n = ap (λ (c : Contents Scan). c.number) e in
-        let l : 0 < (contentsOf s).number = omega arith in
-        simp (le-ltb 256 (length (fileTally w g s).last) few-tags, lt-ltb 0 (contentsOf s).number l) d
+    pub number_damage : (n ≡ 0 → ⊥) → file_number w g s ≡ n
+    unfolding file_number
+    number_damage z =
+        let d : (contents_of s).number ≡ n = ap (λ (c : Contents Scan). c.number) e in
+        let l : 0 < (contents_of s).number = omega arith in
+        simp (le-ltb 256 (length (file_tally w g s).last) few_tags, lt-ltb 0 (contents_of s).number l) d
 
-    pub number-whole : n ≡ 0 → fileNumber w g s ≡ 0
-    unfolding fileNumber
-    number-whole z =
-        let d : (contentsOf s).number ≤ 0 = omega (arith, ap (λ (c : Contents Scan). c.number) e) in
-        simp (le-ltb 256 (length (fileTally w g s).last) few-tags, le-ltb 0 (contentsOf s).number d)
+    pub number_whole : n ≡ 0 → file_number w g s ≡ 0
+    unfolding file_number
+    number_whole z =
+        let d : (contents_of s).number ≤ 0 = omega (arith, ap (λ (c : Contents Scan). c.number) e) in
+        simp (le-ltb 256 (length (file_tally w g s).last) few_tags, le-ltb 0 (contents_of s).number d)
 
 -- ---- part way: of the bytes s the first `at` are scans, which tally to the counts c and the last kept scans l
 
 pub record Tallying (w g : ℕ) (s : List ℕ) (at : ℕ) (c : Counts) (l : List Scan) : Type 0 where
   pub scans : List Scan
-  pub passed : Passed scanReader s at scans
-  pub kept : l ≡ (tallyOf w g scans).last
-  pub counts : c ≡ (tallyOf w g scans).counts
+  pub passed : Passed scan_reader s at scans
+  pub kept : l ≡ (tally_of w g scans).last
+  pub counts : c ≡ (tally_of w g scans).counts
   pub few : length scans ≤ at
   pub tags : length l ≤ 256
 
-pub start : (w g : ℕ) (s : List ℕ) (l : List Scan) → l ≡ [] → Tallying w g s 0 noCounts l
-unfolding tallyFrom
+pub start : (w g : ℕ) (s : List ℕ) (l : List Scan) → l ≡ [] → Tallying w g s 0 no_counts l
+unfolding tally_from
 start w g s l e =
     record {
       scans = [];
-      passed = pass-start scanReader s;
+      passed = pass_start scan_reader s;
       kept = e;
       counts = refl;
       few = omega arith;
@@ -75,7 +75,7 @@ module _ {w g : ℕ} {s : List ℕ} {at : ℕ} {c : Counts} {l : List Scan} (p :
   pub bounded : (c.scans ≤ at) × (c.doubles ≤ at) × (c.kept ≤ at) × (c.gaps ≤ at) × (c.backward ≤ at)
   bounded =
       let q : Sums c = subst Sums (sym p.counts) (sums w g p.scans) in
-      let n = ap (λ (c : Counts). c.scans) p.counts ∙ all-counted w g p.scans in (
+      let n = ap (λ (c : Counts). c.scans) p.counts ∙ all_counted w g p.scans in (
         omega (arith, n, p.few),
         omega (arith, n, p.few, q.all),
         omega (arith, n, p.few, q.all),
@@ -85,114 +85,115 @@ module _ {w g : ℕ} {s : List ℕ} {at : ℕ} {c : Counts} {l : List Scan} (p :
 
   -- ---- no scan is left, or none that is accepted
 
-  ended : {n : ℕ} → contentsOf s ≡ contentsWith p.scans n
-      → ((c ≡ (fileTally w g s).counts) × (l ≡ (fileTally w g s).last)) × (length (tallyOf w g p.scans).last ≤ 256)
+  ended : {n : ℕ} → contents_of s ≡ contents_with p.scans n
+      → ((c ≡ (file_tally w g s).counts) × (l ≡ (file_tally w g s).last)) × (length (tally_of w g p.scans).last ≤ 256)
   ended e =
-      let same = ap (λ (d : Contents Scan). tallyOf w g d.items) (sym e) in (
+      let same = ap (λ (d : Contents Scan). tally_of w g d.items) (sym e) in (
         (p.counts ∙ ap (λ (t : Tally). t.counts) same, p.kept ∙ ap (λ (t : Tally). t.last) same),
         subst (λ (m : List Scan). length m ≤ 256) p.kept p.tags,
       )
 
   module _ (h : length s ≤ at) where
-    whole : contentsOf s ≡ contentsWith p.scans 0
-    unfolding contentsOf
-    whole = pass-end p.passed h
+    whole : contents_of s ≡ contents_with p.scans 0
+    unfolding contents_of
+    whole = pass_end p.passed h
 
-    zero : fileNumber w g s ≡ 0
-    zero = number-whole w g s whole (ended whole).1 refl
+    zero : file_number w g s ≡ 0
+    zero = number_whole w g s whole (ended whole).1 refl
 
-    pub finish : reported c ≡ answered (fileNumber w g s) (reported (fileTally w g s).counts) refusedReport
+    pub finish : reported c ≡ answered (file_number w g s) (reported (file_tally w g s).counts) refused_report
     finish =
-        ap reported (ended whole).0.0 ∙ sym (answered-zero (fileNumber w g s) (reported (fileTally w g s).counts) refusedReport zero)
+        ap reported (ended whole).0.0 ∙ sym (answered_zero (file_number w g s) (reported (file_tally w g s).counts) refused_report zero)
 
-    pub finish-last : l ≡ (fileTally w g s).last
-    finish-last = (ended whole).0.1
+    pub finish_last : l ≡ (file_tally w g s).last
+    finish_last = (ended whole).0.1
 
   -- a number that is not 0
-  refused-by : {n : ℕ} → fileNumber w g s ≡ n → (n ≡ 0 → ⊥)
-      → refusedReport n ≡ answered (fileNumber w g s) (reported (fileTally w g s).counts) refusedReport
-  refused-by e z =
-      sym (answered-refused (fileNumber w g s) (reported (fileTally w g s).counts) refusedReport (λ q. z (sym e ∙ q)) ∙ ap refusedReport e)
+  refused_by : {n : ℕ} → file_number w g s ≡ n → (n ≡ 0 → ⊥)
+      → refused_report n ≡ answered (file_number w g s) (reported (file_tally w g s).counts) refused_report
+  refused_by e z =
+      sym (answered_refused (file_number w g s) (reported (file_tally w g s).counts) refused_report (λ q. z (sym e ∙ q))
+      ∙ ap refused_report e)
 
   -- what was read of what is left
-  module _ {r : ScanRead} (read : r ≡ readScan (take (length s - at) (drop at s))) where
+  module _ {r : ScanRead} (read : r ≡ read_scan (take (length s - at) (drop at s))) where
     module _ (h : at < length s) (z : r.number ≡ 0 → ⊥) where
-      damaged : fileNumber w g s ≡ r.number
-      damaged = let e = scan-stop p.passed read h z in number-damage w g s e (ended e).1 z
+      damaged : file_number w g s ≡ r.number
+      damaged = let e = scan_stop p.passed read h z in number_damage w g s e (ended e).1 z
 
-      pub stop : refusedReport r.number ≡ answered (fileNumber w g s) (reported (fileTally w g s).counts) refusedReport
-      stop = refused-by damaged z
+      pub stop : refused_report r.number ≡ answered (file_number w g s) (reported (file_tally w g s).counts) refused_report
+      stop = refused_by damaged z
 
-      pub stop-last : fileNumber w g s ≡ 0 → ⊥
-      stop-last q = z (sym damaged ∙ q)
+      pub stop_last : file_number w g s ≡ 0 → ⊥
+      stop_last q = z (sym damaged ∙ q)
 
     -- ---- a scan more
 
     module _ (ok : r.number ≡ 0) where
       pub within : at + r.taken ≤ length s
-      within = scan-within p.passed read ok
+      within = scan_within p.passed read ok
 
       pub less : length s - (at + r.taken) < length s - at
-      less = scan-less p.passed read ok
+      less = scan_less p.passed read ok
 
       pub accepted : Below 256 s → Accepted r.scan.stamp
       accepted b =
-          let reads = scan-reads p.passed read ok in
+          let reads = scan_reads p.passed read ok in
           subst (λ (x : Scan). Accepted x.stamp) reads.item
-          (scan-inverse.is (drop at s) (below-drop 256 at s b) reads.number).stored.stamp
+          (scan_inverse.is (drop at s) (below_drop 256 at s b) reads.number).stored.stamp
 
-      more-is : tallyOf w g (p.scans ++ (r.scan ∷ [])) ≡ tallied (kindOf w g l r.scan) (tallyOf w g p.scans) r.scan
-      more-is =
-          tally-next w g p.scans r.scan
-          ∙ ap (λ (m : List Scan). tallied (kindOf w g m r.scan) (tallyOf w g p.scans) r.scan) (sym p.kept)
+      more_is : tally_of w g (p.scans ++ (r.scan ∷ [])) ≡ tallied (kind_of w g l r.scan) (tally_of w g p.scans) r.scan
+      more_is =
+          tally_next w g p.scans r.scan
+          ∙ ap (λ (m : List Scan). tallied (kind_of w g m r.scan) (tally_of w g p.scans) r.scan) (sym p.kept)
 
-      more-kept : lastAfter (kindOf w g l r.scan) r.scan l ≡ (tallyOf w g (p.scans ++ (r.scan ∷ []))).last
-      more-kept = ap (lastAfter (kindOf w g l r.scan) r.scan) p.kept ∙ ap (λ (t : Tally). t.last) (sym more-is)
+      more_kept : last_after (kind_of w g l r.scan) r.scan l ≡ (tally_of w g (p.scans ++ (r.scan ∷ []))).last
+      more_kept = ap (last_after (kind_of w g l r.scan) r.scan) p.kept ∙ ap (λ (t : Tally). t.last) (sym more_is)
 
-      pub next : placeOf r.scan l < 256
-          → Tallying w g s (at + r.taken) (added c (countsOf (kindOf w g l r.scan))) (lastAfter (kindOf w g l r.scan) r.scan l)
+      pub next : place_of r.scan l < 256
+          → Tallying w g s (at + r.taken) (added c (counts_of (kind_of w g l r.scan))) (last_after (kind_of w g l r.scan) r.scan l)
       next room =
-          let k = kindOf w g l r.scan in
+          let k = kind_of w g l r.scan in
           record {
             scans = p.scans ++ (r.scan ∷ []);
-            passed = scan-next p.passed read ok;
-            kept = more-kept;
-            counts = ap (λ (d : Counts). added d (countsOf k)) p.counts ∙ ap (λ (t : Tally). t.counts) (sym more-is);
+            passed = scan_next p.passed read ok;
+            kept = more_kept;
+            counts = ap (λ (d : Counts). added d (counts_of k)) p.counts ∙ ap (λ (t : Tally). t.counts) (sym more_is);
             few = omega (arith, p.few, less, within, length-append p.scans (r.scan ∷ []));
-            tags = after-few 256 k r.scan l p.tags room;
+            tags = after_few 256 k r.scan l p.tags room;
           }
 
       -- the same of what the code has: the place i, the kind k, the counts d and the last kept scans m
-      pub next-by : {i : ℕ} {k : Kind} {d : Counts} {m : List Scan} → i ≡ placeOf r.scan l → i < 256 → k ≡ kindOf w g l r.scan
-          → d ≡ added c (countsOf k) → m ≡ lastAfter (kindOf w g l r.scan) r.scan l → Tallying w g s (at + r.taken) d m
-      next-by {i} {k} {d} {m} place room kind count last =
+      pub next_by : {i : ℕ} {k : Kind} {d : Counts} {m : List Scan} → i ≡ place_of r.scan l → i < 256 → k ≡ kind_of w g l r.scan
+          → d ≡ added c (counts_of k) → m ≡ last_after (kind_of w g l r.scan) r.scan l → Tallying w g s (at + r.taken) d m
+      next_by {i} {k} {d} {m} place room kind count last =
           let n = next (omega (arith, place)) in
-          let e : added c (countsOf (kindOf w g l r.scan)) ≡ d = ap (λ (k : Kind). added c (countsOf k)) (sym kind) ∙ sym count in
+          let e : added c (counts_of (kind_of w g l r.scan)) ≡ d = ap (λ (k : Kind). added c (counts_of k)) (sym kind) ∙ sym count in
           subst (λ (d : Counts). Tallying w g s (at + r.taken) d m) e
-          (subst (Tallying w g s (at + r.taken) (added c (countsOf (kindOf w g l r.scan)))) (sym last) n)
+          (subst (Tallying w g s (at + r.taken) (added c (counts_of (kind_of w g l r.scan)))) (sym last) n)
 
       -- a tag more than there is room for
-      module _ {i : ℕ} (place : i ≡ placeOf r.scan l) (full : 256 ≤ i) where
-        last-place : placeOf r.scan l ≡ length l
-        last-place = omega (arith, p.tags, place-within r.scan l, place)
+      module _ {i : ℕ} (place : i ≡ place_of r.scan l) (full : 256 ≤ i) where
+        last_place : place_of r.scan l ≡ length l
+        last_place = omega (arith, p.tags, place_within r.scan l, place)
 
-        one-more : 256 < length (tallyOf w g (p.scans ++ (r.scan ∷ []))).last
-        one-more =
-            let new : kindOf w g l r.scan ≡ Kept = sym (first-kept w g l r.scan (placeOf r.scan l) refl last-place) in
-            let more = ap length (ap (λ (k : Kind). lastAfter k r.scan l) (sym new) ∙ more-kept) in
-            omega (arith, more, last-new r.scan l last-place, last-place, place)
+        one_more_lem : 256 < length (tally_of w g (p.scans ++ (r.scan ∷ []))).last
+        one_more_lem =
+            let new : kind_of w g l r.scan ≡ Kept = sym (first_kept w g l r.scan (place_of r.scan l) refl last_place) in
+            let more = ap length (ap (λ (k : Kind). last_after k r.scan l) (sym new) ∙ more_kept) in
+            omega (arith, more, last_new r.scan l last_place, last_place, place)
 
-        too-many : fileNumber w g s ≡ tagsRefused
-        unfolding contentsOf
-        too-many =
-            let q = scan-next p.passed read ok in
-            let ys = (contents scanReader (drop (at + r.taken) s)).items in
+        too_many : file_number w g s ≡ tags_refused
+        unfolding contents_of
+        too_many =
+            let q = scan_next p.passed read ok in
+            let ys = (contents scan_reader (drop (at + r.taken) s)).items in
             let xs = p.scans ++ (r.scan ∷ []) in
-            let all = ap (λ (d : Contents Scan). tallyOf w g d.items) q.rest ∙ tally-append w g noTally xs ys in
-            number-tags w g s (omega (arith, one-more, never-fewer w g (tallyOf w g xs) ys, ap (λ (t : Tally). length t.last) all))
+            let all = ap (λ (d : Contents Scan). tally_of w g d.items) q.rest ∙ tally_append w g no_tally xs ys in
+            number_tags w g s (omega (arith, one_more_lem, never_fewer w g (tally_of w g xs) ys, ap (λ (t : Tally). length t.last) all))
 
-        pub stop-full : refusedReport tagsRefused ≡ answered (fileNumber w g s) (reported (fileTally w g s).counts) refusedReport
-        stop-full = refused-by too-many (λ e. omega arith)
+        pub stop_full : refused_report tags_refused ≡ answered (file_number w g s) (reported (file_tally w g s).counts) refused_report
+        stop_full = refused_by too_many (λ e. omega arith)
 
-        pub full-last : fileNumber w g s ≡ 0 → ⊥
-        full-last q = omega (arith, too-many, q)
+        pub full_last : file_number w g s ≡ 0 → ⊥
+        full_last q = omega (arith, too_many, q)

@@ -1,6 +1,6 @@
 // What a scan is beside the last kept one, and what scans of each kind count.
 ghost use Rattle.std.specs.Prelude.{◌≡◌, ◌+◌, ◌*◌, ◌^◌, ◌<◌};
-ghost use Rattle.scans.specs.Tally.{added, countsOf, kindBeside};
+ghost use Rattle.scans.specs.Tally.{added, counts_of, kind_beside};
 
 use crate::moment::Moment;
 use scans::{Counts, Kind};
@@ -9,7 +9,7 @@ use scans::{Counts, Kind};
 pub(crate) fn kind_beside(w: u32, g: u32, last: Moment, moment: Moment) -> Kind
     requires last { last.attoseconds < 10 ^ 18 }
     requires moment { moment.attoseconds < 10 ^ 18 }
-    ensures { result ≡ kindBeside w g (last.seconds * 10 ^ 18 + last.attoseconds)
+    ensures { result ≡ kind_beside w g (last.seconds * 10 ^ 18 + last.attoseconds)
         (moment.seconds * 10 ^ 18 + moment.attoseconds) }
 {
     let d = order::distance_of_counts(
@@ -38,7 +38,7 @@ pub(crate) fn kind_beside(w: u32, g: u32, last: Moment, moment: Moment) -> Kind
 pub(crate) fn counted(c: Counts, kind: Kind) -> Counts
     requires { (c.scans + 1 < 2 ^ 64) × (c.doubles + 1 < 2 ^ 64) × (c.kept + 1 < 2 ^ 64)
         × (c.gaps + 1 < 2 ^ 64) × (c.backward + 1 < 2 ^ 64) }
-    ensures { result ≡ added c (countsOf kind) }
+    ensures { result ≡ added c (counts_of kind) }
 {
     let scans = c.scans + 1;
     match kind {

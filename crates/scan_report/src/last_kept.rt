@@ -1,7 +1,7 @@
 // The last kept scan of each tag, in the order of the tags' first scans.
 ghost use Rattle.std.specs.Prelude.{◌≡◌, ◌≤◌, ◌<◌, ◌+◌, List, [], length, get_or};
-ghost use Rattle.scans.specs.Tally.{noScan, placeOf, withLast};
-ghost use Rattle.scans.specs.Report.{wordCount, wordsOver};
+ghost use Rattle.scans.specs.Tally.{no_scan, place_of, with_last};
+ghost use Rattle.scans.specs.Report.{word_count, words_over};
 ghost use Rattle.scan_report.specs.Moment.{IsMoment};
 
 use crate::moment::Moment;
@@ -74,7 +74,7 @@ impl LastKept {
 
     // The place of the tag of `x`: past the last where it has none.
     pub fn place(&self, x: Scan) -> usize
-        ensures { result ≡ placeOf x self.now }
+        ensures { result ≡ place_of x self.now }
     {
         let hint = self.hints[hint_of(x.tag)] as usize;
         if hint < self.len && self.scans[hint].tag == x.tag {
@@ -92,7 +92,7 @@ impl LastKept {
     pub fn moment(&self, place: usize) -> Moment
         requires place { place < length self.now }
         requires room { place < 256 }
-        ensures { IsMoment (get_or self.now place noScan).stamp result }
+        ensures { IsMoment (get_or self.now place no_scan).stamp result }
     {
         self.moments[place]
     }
@@ -100,10 +100,10 @@ impl LastKept {
     // Puts `x` in its place.
     #[tactic(auto, using(crate::proofs::Kept::putting))]
     pub fn keep(&mut self, place: usize, x: Scan, moment: Moment)
-        requires place { place ≡ placeOf x self.old }
+        requires place { place ≡ place_of x self.old }
         requires counted { IsMoment x.stamp moment }
         requires room { place < 256 }
-        ensures { self.new ≡ withLast x self.old }
+        ensures { self.new ≡ with_last x self.old }
     {
         self.scans[place] = x;
         self.moments[place] = moment;
@@ -115,8 +115,8 @@ impl LastKept {
 
     // Puts the words of the scans into the first 768, and zeros after them.
     pub fn write_words(&self, words: &mut [u64])
-        requires { wordCount ≤ length words.old }
-        ensures { words.new ≡ wordsOver words.old self.now }
+        requires { word_count ≤ length words.old }
+        ensures { words.new ≡ words_over words.old self.now }
     {
         let mut at = 0;
         for i in 0..self.len {

@@ -7,7 +7,7 @@ mod moment;
 mod tally;
 
 ghost use Rattle.std.specs.Prelude.{◌≡◌};
-ghost use Rattle.scans.specs.Report.{reportOf, wordsAfter};
+ghost use Rattle.scans.specs.Report.{report_of, words_after};
 
 use ion::refusal;
 use last_kept::{LastKept, WORD_COUNT};
@@ -20,8 +20,8 @@ const MAX_WINDOW: u32 = 86_400;
 // Reports on the file `s`: a scan less than `w` seconds from the last kept one of its tag is a double; a kept one more than
 // `g` seconds later is a gap. The first 768 of `words` get the last kept scan of each tag, three words for each, and zeros.
 pub fn report(s: &[u8], w: u32, g: u32, words: &mut [u64]) -> Report
-    ensures value { result ≡ reportOf words.old w g s.now }
-    ensures buffer { words.new ≡ wordsAfter words.old w g s.now }
+    ensures value { result ≡ report_of words.old w g s.now }
+    ensures buffer { words.new ≡ words_after words.old w g s.now }
 {
     if words.len() < WORD_COUNT {
         return refused(refusal::WORDS);

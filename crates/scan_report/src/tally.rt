@@ -2,9 +2,9 @@
 ghost use Rattle.std.specs.Prelude.{◌≡◌, ◌<◌, []};
 ghost use Rattle.ion.specs.Calls.Accepted.{Accepted};
 ghost use Rattle.ion.specs.Calls.Answered.{answered};
-ghost use Rattle.scans.specs.Tally.{kindOf, lastAfter, placeOf};
+ghost use Rattle.scans.specs.Tally.{kind_of, last_after, place_of};
 ghost use Rattle.scan_report.specs.Moment.{IsMoment};
-ghost use Rattle.scans.specs.Report.{fileNumber, fileTally, reported, refusedReport};
+ghost use Rattle.scans.specs.Report.{file_number, file_tally, reported, refused_report};
 
 use crate::kind::{counted, kind_beside};
 use crate::last_kept::{LastKept, TAG_COUNT};
@@ -21,7 +21,7 @@ const NO_COUNTS: Counts = Counts {
 };
 
 pub(crate) fn refused(number: u32) -> Report
-    ensures { result ≡ refusedReport number }
+    ensures { result ≡ refused_report number }
 {
     Report {
         number: number,
@@ -31,10 +31,10 @@ pub(crate) fn refused(number: u32) -> Report
 
 // What `x` is, whose tag has that place.
 fn kind_of(last: &LastKept, place: usize, w: u32, g: u32, x: Scan, moment: Moment) -> Kind
-    requires place { place ≡ placeOf x last.now }
+    requires place { place ≡ place_of x last.now }
     requires room { place < 256 }
     requires counted { IsMoment x.stamp moment }
-    ensures { result ≡ kindOf w g last.now x }
+    ensures { result ≡ kind_of w g last.now x }
 {
     if place == last.len() {
         return Kind::Kept;
@@ -44,11 +44,11 @@ fn kind_of(last: &LastKept, place: usize, w: u32, g: u32, x: Scan, moment: Momen
 
 // What `x` is, whose tag has that place; a kept one takes it.
 fn take_scan(last: &mut LastKept, place: usize, w: u32, g: u32, x: Scan) -> Kind
-    requires place { place ≡ placeOf x last.old }
+    requires place { place ≡ place_of x last.old }
     requires room { place < 256 }
     requires accepted { Accepted x.stamp }
-    ensures kind { result ≡ kindOf w g last.old x }
-    ensures last { last.new ≡ lastAfter (kindOf w g last.old x) x last.old }
+    ensures kind { result ≡ kind_of w g last.old x }
+    ensures last { last.new ≡ last_after (kind_of w g last.old x) x last.old }
 {
     let moment = moment_of(x.stamp);
     let kind = kind_of(last, place, w, g, x, moment);
@@ -62,8 +62,8 @@ fn take_scan(last: &mut LastKept, place: usize, w: u32, g: u32, x: Scan) -> Kind
 // The counts of a file, or the number of a 257th tag or of the file's damage; and the last kept scans.
 pub(crate) fn tally(s: &[u8], w: u32, g: u32, last: &mut LastKept) -> Report
     requires { last.old ≡ [] }
-    ensures report { result ≡ answered (fileNumber w g s.now) (reported (fileTally w g s.now).counts) refusedReport }
-    ensures last { fileNumber w g s.now ≡ 0 → last.new ≡ (fileTally w g s.now).last }
+    ensures report { result ≡ answered (file_number w g s.now) (reported (file_tally w g s.now).counts) refused_report }
+    ensures last { file_number w g s.now ≡ 0 → last.new ≡ (file_tally w g s.now).last }
 {
     let mut at = 0;
     let mut counts = NO_COUNTS;

@@ -4,27 +4,27 @@ use Prim.Native.Nat.{ℕ, zero, suc}
 use mathlib.Core.List.{List, [], ◌∷◌, ◌++◌, map}
 use mathlib.Core.Path.{◌≡◌, refl}
 use lib.ListN.{length, take, replicate}
-use Rattle.places.specs.Places.{placesOn, places, countIn, count, placeCount, valueFrom}
-use Rattle.ion.specs.Numbers.VarUInt.{groups, varuint, scanFrom, readVarUInt}
-use Rattle.ion.specs.Numbers.VarInt.{signedCount, signed, varint, readVarInt}
-use Rattle.ion.specs.Numbers.Int.{intCount, int, readInt}
-use Rattle.ion.specs.Numbers.Decimal.{decimalBytes}
-use Rattle.ion.specs.Calendar.Dates.{isLeap, monthLengthOf, sumBelow}
-use Rattle.ion.specs.Pair.Word.{wordOf, fieldsOf}
-use Rattle.ion.specs.Pair.Pair.{packedPair}
+use Rattle.places.specs.Places.{places_on, places, count_in, count, place_count, value_from}
+use Rattle.ion.specs.Numbers.VarUInt.{groups, varuint, scan_from, read_var_uint}
+use Rattle.ion.specs.Numbers.VarInt.{signed_count, signed, varint, read_var_int}
+use Rattle.ion.specs.Numbers.Int.{int_count, int, read_int}
+use Rattle.ion.specs.Numbers.Decimal.{decimal_bytes}
+use Rattle.ion.specs.Calendar.Dates.{is_leap, month_length_of, sum_below}
+use Rattle.ion.specs.Pair.Word.{word_of, fields_of}
+use Rattle.ion.specs.Pair.Pair.{packed_pair}
 use Rattle.ion.specs.Pair.Fraction.{capped}
-use Rattle.ion.specs.Calls.Output.{put, roomFor, putAfter, wroteAfter}
-use Rattle.ion.specs.Calls.Build.{buildNumber, buildPair, buildOf}
-use Rattle.ion.specs.Calls.Check.{checkOf}
-use Rattle.ion.specs.Calls.Contents.{contentsFrom, contents, inTurn}
-use Rattle.ion.specs.Calls.Utc.{utcFields}
-use Rattle.ion.specs.Value.Encode.{offsetBytes, varuints, fieldCount, fractionBytes, bodyFrom, bodyOf, header, valueOf}
-use Rattle.ion.specs.Value.Decode.{decodeOffset, decodeFields, decodeFraction, filled, precisionWith, decodeBody, pairFrom}
-use Rattle.ion.specs.Value.ReadValue.{same, isBodyOf, readBody, readAfter, readLength, readValue}
+use Rattle.ion.specs.Calls.Output.{put, room_for, put_after, wrote_after}
+use Rattle.ion.specs.Calls.Build.{build_number, build_pair, build_of}
+use Rattle.ion.specs.Calls.Check.{check_of}
+use Rattle.ion.specs.Calls.Contents.{contents_from, contents, in_turn}
+use Rattle.ion.specs.Calls.Utc.{utc_fields}
+use Rattle.ion.specs.Value.Encode.{offset_bytes, varuints, field_count, fraction_bytes, body_from, body_of, header, value_of}
+use Rattle.ion.specs.Value.Decode.{decode_offset, decode_fields, decode_fraction, filled, precision_with, decode_body, pair_from}
+use Rattle.ion.specs.Value.ReadValue.{same, is_body_of, read_body, read_after, read_length, read_value}
 use Rattle.ion.specs.declared.Written.{Written}
-use Rattle.scans.specs.Number.{readNumber}
-use Rattle.scans.specs.Scan.{scanOf, scanBytes, scanNumber, refusedScan, acceptedScan, readScan}
-use Rattle.scans.specs.File.{contentsOf, fileBytes, checkFileOf}
+use Rattle.scans.specs.Number.{read_number}
+use Rattle.scans.specs.Scan.{scan_of, scan_bytes, scan_number, refused_scan, accepted_scan, read_scan}
+use Rattle.scans.specs.File.{contents_of, file_bytes, check_file_of}
 use Rattle.scans.specs.declared.Scan.{Scan}
 use Rattle.scans.specs.declared.ScanRead.{ScanRead}
 use Rattle.scans.specs.declared.FileRead.{FileRead}
@@ -72,30 +72,30 @@ above : List ℕ
 above = 0x10 ∷ 0x00 ∷ 0x00 ∷ 0x00 ∷ 0x80 ∷ []
 
 first : Scan
-first = scanOf 0 0 (packedPair 0x0004420000000000 0)
+first = scan_of 0 0 (packed_pair 0x0004420000000000 0)
 
-firstBytes : List ℕ
-firstBytes = 0x80 ∷ 0x80 ∷ year1
+first_bytes : List ℕ
+first_bytes = 0x80 ∷ 0x80 ∷ year1
 
 second : Scan
-second = scanOf 300 7 (packedPair 0x1f90864146805a00 0)
+second = scan_of 300 7 (packed_pair 0x1f90864146805a00 0)
 
-secondBytes : List ℕ
-secondBytes = 0x02 ∷ 0xac ∷ 0x87 ∷ p3
+second_bytes : List ℕ
+second_bytes = 0x02 ∷ 0xac ∷ 0x87 ∷ p3
 
 last : Scan
-last = scanOf 4294967295 4294967295 (packedPair 0x9c3f3f7efb920010 999999999999999999)
+last = scan_of 4294967295 4294967295 (packed_pair 0x9c3f3f7efb920010 999999999999999999)
 
-lastBytes : List ℕ
-lastBytes = most ++ (most ++ longest)
+last_bytes : List ℕ
+last_bytes = most ++ (most ++ longest)
 
 -- ---- rows
 
 takes : List ℕ → Scan → ℕ → Row
-takes s x n = row (scan (readScan s)) (scan (acceptedScan x n))
+takes s x n = row (scan (read_scan s)) (scan (accepted_scan x n))
 
 refuses : List ℕ → ℕ → Row
-refuses s n = row (scan (readScan s)) (scan (refusedScan n))
+refuses s n = row (scan (read_scan s)) (scan (refused_scan n))
 
 -- the n shortest beginnings of a scan's bytes
 cuts : ℕ → List ℕ → List Row
@@ -103,10 +103,11 @@ cuts zero s = []
 cuts (suc n) s = refuses (take n s) 13 ∷ cuts n s
 
 holds : List ℕ → List Scan → Row
-holds s xs = row (file (contentsOf s).items (contentsOf s).number (checkFileOf s)) (file xs 0 (record { number = 0; scans = length xs }))
+holds s xs =
+    row (file (contents_of s).items (contents_of s).number (check_file_of s)) (file xs 0 (record { number = 0; scans = length xs }))
 
 damaged : List ℕ → List Scan → ℕ → Row
-damaged s xs n = row (file (contentsOf s).items (contentsOf s).number (checkFileOf s)) (file xs n (record { number = n; scans = 0 }))
+damaged s xs n = row (file (contents_of s).items (contents_of s).number (check_file_of s)) (file xs n (record { number = n; scans = 0 }))
 
 filler : ℕ → List ℕ
 filler n = replicate {A = ℕ} n 0xaa
@@ -115,23 +116,23 @@ filler n = replicate {A = ℕ} n 0xaa
 writes : ℕ → ℕ → Scan → Written → List ℕ → Row
 writes n at x w e =
     let d = filler n in
-    let given = written (wroteAfter (scanNumber x) d at (scanBytes x)) (putAfter (scanNumber x) d at (scanBytes x)) in
+    let given = written (wrote_after (scan_number x) d at (scan_bytes x)) (put_after (scan_number x) d at (scan_bytes x)) in
     row given (written w e)
 
 wrote : ℕ → Written
 wrote n = record { number = 0; written = n }
 
-refusedWith : ℕ → Written
-refusedWith n = record { number = n; written = 0 }
+refused_with : ℕ → Written
+refused_with n = record { number = n; written = 0 }
 
-pub scanRows : List Row
-scanRows =
+pub scan_rows : List Row
+scan_rows =
     -- the shortest scan, bytes after it, numbers of one byte and of two, the longest scan
-    takes firstBytes first 5
-    ∷ takes (firstBytes ++ (0xff ∷ 0x00 ∷ [])) first 5
-    ∷ takes secondBytes second 12
-    ∷ takes (0xff ∷ 0x01 ∷ 0x80 ∷ year1) (scanOf 127 128 first.stamp) 6
-    ∷ takes lastBytes last 30
+    takes first_bytes first 5
+    ∷ takes (first_bytes ++ (0xff ∷ 0x00 ∷ [])) first 5
+    ∷ takes second_bytes second 12
+    ∷ takes (0xff ∷ 0x01 ∷ 0x80 ∷ year1) (scan_of 127 128 first.stamp) 6
+    ∷ takes last_bytes last 30
     -- a tag cut short: 13, even where no end mark could save it
     ∷ refuses [] 13
     ∷ refuses (0x00 ∷ []) 13
@@ -141,7 +142,7 @@ scanRows =
     ∷ refuses (0x00 ∷ 0x82 ∷ []) 19
     ∷ refuses (0x00 ∷ 0x00 ∷ []) 19
     ∷ refuses unmarked 19
-    ∷ refuses (unmarked ++ (0x80 ∷ firstBytes)) 19
+    ∷ refuses (unmarked ++ (0x80 ∷ first_bytes)) 19
     ∷ refuses above 19
     ∷ refuses (above ++ (0x80 ∷ year1)) 19
     ∷ refuses (0x7f ∷ 0x7f ∷ 0x7f ∷ 0x7f ∷ 0xff ∷ []) 19
@@ -164,30 +165,31 @@ scanRows =
     ∷ refuses (0x00 ∷ 0x00 ∷ 0x6f ∷ []) 19
     -- files: empty, of scans, cut, damaged between scans, damaged in a value; what follows the damage is not read
     ∷ holds [] []
-    ∷ holds (firstBytes ++ (secondBytes ++ lastBytes)) (first ∷ second ∷ last ∷ [])
+    ∷ holds (first_bytes ++ (second_bytes ++ last_bytes)) (first ∷ second ∷ last ∷ [])
     ∷ damaged (0x00 ∷ []) [] 13
-    ∷ damaged (firstBytes ++ (0x80 ∷ [])) (first ∷ []) 13
-    ∷ damaged (firstBytes ++ (0x00 ∷ 0x82 ∷ secondBytes)) (first ∷ []) 19
-    ∷ damaged (firstBytes ++ (secondBytes ++ (0x80 ∷ 0x80 ∷ 0x6f ∷ firstBytes))) (first ∷ second ∷ []) 14
+    ∷ damaged (first_bytes ++ (0x80 ∷ [])) (first ∷ []) 13
+    ∷ damaged (first_bytes ++ (0x00 ∷ 0x82 ∷ second_bytes)) (first ∷ []) 19
+    ∷ damaged (first_bytes ++ (second_bytes ++ (0x80 ∷ 0x80 ∷ 0x6f ∷ first_bytes))) (first ∷ second ∷ []) 14
     -- scans written: alone and one after another
-    ∷ row (bytes (scanBytes first)) (bytes firstBytes)
-    ∷ row (bytes (fileBytes (first ∷ second ∷ last ∷ []))) (bytes (firstBytes ++ (secondBytes ++ lastBytes)))
-    ∷ writes 5 0 first (wrote 5) firstBytes
-    ∷ writes 7 1 first (wrote 5) (0xaa ∷ (firstBytes ++ (0xaa ∷ [])))
+    ∷ row (bytes (scan_bytes first)) (bytes first_bytes)
+    ∷ row (bytes (file_bytes (first ∷ second ∷ last ∷ []))) (bytes (first_bytes ++ (second_bytes ++ last_bytes)))
+    ∷ writes 5 0 first (wrote 5) first_bytes
+    ∷ writes 7 1 first (wrote 5) (0xaa ∷ (first_bytes ++ (0xaa ∷ [])))
     -- refused: no room, past the end, a pair that the builder never gives, even without room
-    ∷ writes 4 0 first (refusedWith 16) (filler 4)
-    ∷ writes 5 6 first (refusedWith 16) (filler 5)
-    ∷ writes 9 0 (scanOf 0 0 (packedPair 0x0004420000000000 1)) (refusedWith 12) (filler 9)
-    ∷ writes 0 0 (scanOf 0 0 (packedPair 0 0)) (refusedWith 11) []
+    ∷ writes 4 0 first (refused_with 16) (filler 4)
+    ∷ writes 5 6 first (refused_with 16) (filler 5)
+    ∷ writes 9 0 (scan_of 0 0 (packed_pair 0x0004420000000000 1)) (refused_with 12) (filler 9)
+    ∷ writes 0 0 (scan_of 0 0 (packed_pair 0 0)) (refused_with 11) []
     -- every beginning of a scan is cut short
-    ∷ (cuts 5 firstBytes ++ (cuts 12 secondBytes ++ cuts 30 lastBytes))
+    ∷ (cuts 5 first_bytes ++ (cuts 12 second_bytes ++ cuts 30 last_bytes))
 
 -- every row
-pub scan-examples : map (λ (r : Row). r.given) scanRows ≡ map (λ (r : Row). r.stated) scanRows
-unfolding scanRows row year1 p3 longest most unmarked above first firstBytes second secondBytes last lastBytes takes refuses cuts holds
-    damaged filler writes wrote refusedWith placesOn places countIn count placeCount valueFrom groups varuint scanFrom readVarUInt
-    signedCount signed varint readVarInt intCount int readInt decimalBytes isLeap monthLengthOf sumBelow wordOf fieldsOf capped buildOf
-    buildNumber buildPair checkOf utcFields offsetBytes varuints fieldCount fractionBytes bodyFrom bodyOf header valueOf decodeOffset
-    decodeFields decodeFraction filled precisionWith decodeBody pairFrom same isBodyOf readBody readAfter readLength readValue put
-    roomFor putAfter wroteAfter contentsFrom contents inTurn readNumber scanBytes scanNumber readScan contentsOf fileBytes checkFileOf
-scan-examples = refl
+pub scan_examples : map (λ (r : Row). r.given) scan_rows ≡ map (λ (r : Row). r.stated) scan_rows
+unfolding scan_rows row year1 p3 longest most unmarked above first first_bytes second second_bytes last last_bytes takes refuses cuts holds
+    damaged filler writes wrote refused_with places_on places count_in count place_count value_from groups varuint scan_from read_var_uint
+    signed_count signed varint read_var_int int_count int read_int decimal_bytes is_leap month_length_of sum_below word_of fields_of capped
+    build_of build_number build_pair check_of utc_fields offset_bytes varuints field_count fraction_bytes body_from body_of header value_of
+    decode_offset decode_fields decode_fraction filled precision_with decode_body pair_from same is_body_of read_body read_after read_length
+    read_value put room_for put_after wrote_after contents_from contents in_turn read_number scan_bytes scan_number read_scan contents_of
+    file_bytes check_file_of
+scan_examples = refl

@@ -1,9 +1,9 @@
 -- Doubles and gaps: what each scan is beside the last kept scan of its tag, and the counts, over a list of scans. Assumes nothing.
 use Rattle.std.specs.Prelude.{ℕ, suc, ◌+◌, ◌*◌, ◌^◌, Bool, cond, List, [], ◌∷◌, eqb, ltb, length, get_or}
-use Rattle.ion.specs.Pair.Count.{countOf}
-use Rattle.ion.specs.Pair.Pair.{noStamp}
-use Rattle.ion.specs.Calls.Order.{sizeOfDifference}
-use Rattle.scans.specs.Scan.{scanOf}
+use Rattle.ion.specs.Pair.Count.{count_of}
+use Rattle.ion.specs.Pair.Pair.{no_stamp}
+use Rattle.ion.specs.Calls.Order.{size_of_difference}
+use Rattle.scans.specs.Scan.{scan_of}
 use Rattle.scans.specs.declared.Scan.{Scan}
 use Rattle.scans.specs.declared.Counts.{Counts}
 use Rattle.scans.specs.declared.Kind.{Kind}
@@ -11,18 +11,18 @@ use Rattle.scans.specs.declared.Kind.TheVariants.{Double, Kept, Gap, Backward}
 
 -- ---- the last kept scans, in the order of their tags' first scans
 
-abbrev pub samePost : Scan → Scan → Bool
-samePost x y = eqb x.tag y.tag
+abbrev pub same_post : Scan → Scan → Bool
+same_post x y = eqb x.tag y.tag
 
 -- the place of x's tag among them; past the last where it has none
-unfoldable pub placeOf : Scan → List Scan → ℕ
-placeOf x [] = 0
-placeOf x (y ∷ l) = cond (samePost x y) 0 (suc (placeOf x l))
+unfoldable pub place_of : Scan → List Scan → ℕ
+place_of x [] = 0
+place_of x (y ∷ l) = cond (same_post x y) 0 (suc (place_of x l))
 
 -- x in that place
-unfoldable pub withLast : Scan → List Scan → List Scan
-withLast x [] = x ∷ []
-withLast x (y ∷ l) = cond (samePost x y) (x ∷ l) (y ∷ withLast x l)
+unfoldable pub with_last : Scan → List Scan → List Scan
+with_last x [] = x ∷ []
+with_last x (y ∷ l) = cond (same_post x y) (x ∷ l) (y ∷ with_last x l)
 
 -- ---- what a scan is
 
@@ -31,60 +31,60 @@ abbrev pub seconds : ℕ → ℕ
 seconds n = n * 10 ^ 18
 
 -- a timestamp by its count n, beside the last kept one by its: less than w seconds away; before it; more than g seconds after it
-unfoldable pub kindBeside : ℕ → ℕ → ℕ → ℕ → Kind
-kindBeside w g last n =
-    cond (ltb (sizeOfDifference n last) (seconds w)) Double
+unfoldable pub kind_beside : ℕ → ℕ → ℕ → ℕ → Kind
+kind_beside w g last n =
+    cond (ltb (size_of_difference n last) (seconds w)) Double
     (cond (ltb n last) Backward
     (cond (ltb (last + seconds g) n) Gap Kept))
 
-abbrev pub noScan : Scan
-noScan = scanOf 0 0 noStamp
+abbrev pub no_scan : Scan
+no_scan = scan_of 0 0 no_stamp
 
 -- the first scan of its tag is kept
-unfoldable pub kindOf : ℕ → ℕ → List Scan → Scan → Kind
-kindOf w g l x =
-    let i = placeOf x l in
-    cond (eqb i (length l)) Kept (kindBeside w g (countOf (get_or l i noScan).stamp) (countOf x.stamp))
+unfoldable pub kind_of : ℕ → ℕ → List Scan → Scan → Kind
+kind_of w g l x =
+    let i = place_of x l in
+    cond (eqb i (length l)) Kept (kind_beside w g (count_of (get_or l i no_scan).stamp) (count_of x.stamp))
 
 -- ---- one scan after another
 
-abbrev pub countsWith : ℕ → ℕ → ℕ → ℕ → ℕ → Counts
-countsWith s d k g b = record { scans = s; doubles = d; kept = k; gaps = g; backward = b }
+abbrev pub counts_with : ℕ → ℕ → ℕ → ℕ → ℕ → Counts
+counts_with s d k g b = record { scans = s; doubles = d; kept = k; gaps = g; backward = b }
 
-abbrev pub noCounts : Counts
-noCounts = countsWith 0 0 0 0 0
+abbrev pub no_counts : Counts
+no_counts = counts_with 0 0 0 0 0
 
 -- what one scan of a kind counts
-abbrev pub countsOf : Kind → Counts
-countsOf Double = countsWith 1 1 0 0 0
-countsOf Kept = countsWith 1 0 1 0 0
-countsOf Gap = countsWith 1 0 1 1 0
-countsOf Backward = countsWith 1 0 1 0 1
+abbrev pub counts_of : Kind → Counts
+counts_of Double = counts_with 1 1 0 0 0
+counts_of Kept = counts_with 1 0 1 0 0
+counts_of Gap = counts_with 1 0 1 1 0
+counts_of Backward = counts_with 1 0 1 0 1
 
 abbrev pub added : Counts → Counts → Counts
-added c u = countsWith (c.scans + u.scans) (c.doubles + u.doubles) (c.kept + u.kept) (c.gaps + u.gaps) (c.backward + u.backward)
+added c u = counts_with (c.scans + u.scans) (c.doubles + u.doubles) (c.kept + u.kept) (c.gaps + u.gaps) (c.backward + u.backward)
 
 -- the last kept scans after x; a double changes none
-abbrev pub lastAfter : Kind → Scan → List Scan → List Scan
-lastAfter Double x l = l
-lastAfter Kept x l = withLast x l
-lastAfter Gap x l = withLast x l
-lastAfter Backward x l = withLast x l
+abbrev pub last_after : Kind → Scan → List Scan → List Scan
+last_after Double x l = l
+last_after Kept x l = with_last x l
+last_after Gap x l = with_last x l
+last_after Backward x l = with_last x l
 
 -- the last kept scans, and the counts
 pub record Tally : Type 0 where
   pub last : List Scan
   pub counts : Counts
 
-abbrev pub noTally : Tally
-noTally = record { last = []; counts = noCounts }
+abbrev pub no_tally : Tally
+no_tally = record { last = []; counts = no_counts }
 
 abbrev pub tallied : Kind → Tally → Scan → Tally
-tallied k t x = record { last = lastAfter k x t.last; counts = added t.counts (countsOf k) }
+tallied k t x = record { last = last_after k x t.last; counts = added t.counts (counts_of k) }
 
-unfoldable pub tallyFrom : ℕ → ℕ → Tally → List Scan → Tally
-tallyFrom w g t [] = t
-tallyFrom w g t (x ∷ xs) = tallyFrom w g (tallied (kindOf w g t.last x) t x) xs
+unfoldable pub tally_from : ℕ → ℕ → Tally → List Scan → Tally
+tally_from w g t [] = t
+tally_from w g t (x ∷ xs) = tally_from w g (tallied (kind_of w g t.last x) t x) xs
 
-abbrev pub tallyOf : ℕ → ℕ → List Scan → Tally
-tallyOf w g xs = tallyFrom w g noTally xs
+abbrev pub tally_of : ℕ → ℕ → List Scan → Tally
+tally_of w g xs = tally_from w g no_tally xs

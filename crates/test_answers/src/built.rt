@@ -1,18 +1,18 @@
 // Records of building, of the packed check and of the UTC form: a number and a pair. A record of building starts with a field set
 // of 48 bytes.
 ghost use Rattle.std.specs.Prelude.{◌≡◌, ◌<◌};
-ghost use Rattle.test_answers.specs.Fields.{fieldSetAt, isFieldSet};
-ghost use Rattle.test_answers.specs.Agreement.{isBuilt, buildAgrees, checkAgrees, utcAgrees};
+ghost use Rattle.test_answers.specs.Fields.{field_set_at, is_field_set};
+ghost use Rattle.test_answers.specs.Agreement.{is_built, build_agrees, check_agrees, utc_agrees};
 
 use crate::fields::{half_at, number_at, pair_at, signed_half, signed_word, word_at};
 use ion::Built;
 use test_field_sets::FieldSet;
 
 // Whether an answer is the number and the pair from index `at` on.
-#[tactic(auto, unfolding(crate::specs::Agreement::isBuilt))]
+#[tactic(auto, unfolding(crate::specs::Agreement::is_built))]
 pub(crate) fn is_built(a: Built, r: &[u8], at: usize) -> bool
     requires { at < 300 }
-    ensures { result ≡ isBuilt a r.now at }
+    ensures { result ≡ is_built a r.now at }
 {
     let s = a.stamp;
     let t = pair_at(r, at + 1);
@@ -21,18 +21,18 @@ pub(crate) fn is_built(a: Built, r: &[u8], at: usize) -> bool
 }
 
 // Whether the second byte is a sum of 1, 2 and 4, and a fraction that is no decimal has numbers of 32 bits.
-#[tactic(auto, unfolding(crate::specs::Fields::isFieldSet))]
+#[tactic(auto, unfolding(crate::specs::Fields::is_field_set))]
 fn is_field_set(r: &[u8]) -> bool
-    ensures { result ≡ isFieldSet r.now }
+    ensures { result ≡ is_field_set r.now }
 {
     let is_decimal = 5 <= number_at(r, 26);
     let is_short = (half_at(r, 27) == 0) & (half_at(r, 35) == 0);
     (number_at(r, 1) < 8) & (is_decimal | is_short)
 }
 
-#[tactic(auto, unfolding(crate::specs::Fields::fieldSetAt))]
+#[tactic(auto, unfolding(crate::specs::Fields::field_set_at))]
 fn field_set_at(r: &[u8]) -> FieldSet
-    ensures { result ≡ fieldSetAt r.now }
+    ensures { result ≡ field_set_at r.now }
 {
     let counting = number_at(r, 1);
     FieldSet {
@@ -56,23 +56,23 @@ fn field_set_at(r: &[u8]) -> FieldSet
     }
 }
 
-#[tactic(auto, unfolding(crate::specs::Agreement::buildAgrees))]
+#[tactic(auto, unfolding(crate::specs::Agreement::build_agrees))]
 pub fn build_agrees(r: &[u8]) -> bool
-    ensures { result ≡ buildAgrees r.now }
+    ensures { result ≡ build_agrees r.now }
 {
     is_field_set(r) & is_built(test_field_sets::build_from(field_set_at(r)), r, 48)
 }
 
-#[tactic(auto, unfolding(crate::specs::Agreement::checkAgrees))]
+#[tactic(auto, unfolding(crate::specs::Agreement::check_agrees))]
 pub fn check_agrees(r: &[u8]) -> bool
-    ensures { result ≡ checkAgrees r.now }
+    ensures { result ≡ check_agrees r.now }
 {
     is_built(timestamp::check(pair_at(r, 0)), r, 16)
 }
 
-#[tactic(auto, unfolding(crate::specs::Agreement::utcAgrees))]
+#[tactic(auto, unfolding(crate::specs::Agreement::utc_agrees))]
 pub fn utc_agrees(r: &[u8]) -> bool
-    ensures { result ≡ utcAgrees r.now }
+    ensures { result ≡ utc_agrees r.now }
 {
     is_built(timestamp::to_utc(pair_at(r, 0)), r, 16)
 }

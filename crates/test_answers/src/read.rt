@@ -1,14 +1,14 @@
 // Records of reading: the answer stands before the input, which is the rest of the record.
 ghost use Rattle.std.specs.Prelude.{◌≡◌};
-ghost use Rattle.test_answers.specs.Agreement.{readAgrees, textAgrees};
+ghost use Rattle.test_answers.specs.Agreement.{read_agrees, text_agrees};
 
 use crate::built::is_built;
 use crate::fields::count_at;
 use ion::Built;
 
-#[tactic(auto, unfolding(crate::specs::Agreement::readAgrees))]
+#[tactic(auto, unfolding(crate::specs::Agreement::read_agrees))]
 pub fn read_agrees(r: &[u8]) -> bool
-    ensures { result ≡ readAgrees r.now }
+    ensures { result ≡ read_agrees r.now }
 {
     if r.len() < 19 {
         return false;
@@ -22,9 +22,9 @@ pub fn read_agrees(r: &[u8]) -> bool
     is_built(answer, r, 0) & (a.taken == count_at(r, 17))
 }
 
-#[tactic(auto, unfolding(crate::specs::Agreement::textAgrees))]
+#[tactic(auto, unfolding(crate::specs::Agreement::text_agrees))]
 pub fn text_agrees(r: &[u8]) -> bool
-    ensures { result ≡ textAgrees r.now }
+    ensures { result ≡ text_agrees r.now }
 {
     if r.len() < 18 {
         return false;

@@ -1,6 +1,6 @@
 // A date and time moved by an offset.
 ghost use Rattle.std.specs.Prelude.{◌≡◌};
-ghost use Rattle.test_calendar_exports.specs.Shifting.{dateTime, isMovable, movedBy, MovedIs};
+ghost use Rattle.test_calendar_exports.specs.Shifting.{date_time, is_movable, moved_by, MovedIs};
 
 use ion::offset::OffsetMinutes;
 use ion::{Date, DateTime};
@@ -17,7 +17,7 @@ pub struct Moved {
 
 // Whether `t` is a date and time in the years 0 to 10000, and `m` an offset.
 fn is_movable(t: DateTime, m: OffsetMinutes) -> bool
-    ensures { result ≡ isMovable t m.0 }
+    ensures { result ≡ is_movable t m.0 }
 {
     let date = Date {
         year: t.year,
@@ -27,9 +27,9 @@ fn is_movable(t: DateTime, m: OffsetMinutes) -> bool
     (t.year <= 10000) & calendar::is_date(date) & (t.hour < 24) & (t.minute < 60) & m.is_offset()
 }
 
-#[tactic(auto, unfolding(crate::specs::Shifting::movedBy))]
+#[tactic(auto, unfolding(crate::specs::Shifting::moved_by))]
 fn move_by(t: DateTime, m: OffsetMinutes) -> Moved
-    ensures { result ≡ movedBy t m.0 }
+    ensures { result ≡ moved_by t m.0 }
 {
     if !is_movable(t, m) {
         return Moved {
@@ -68,7 +68,7 @@ pub extern "C" fn add_offset_to_utc(
     offset: i32,
     time: &mut [u32; 5],
 ) -> u32
-    ensures { MovedIs (movedBy (dateTime year month day hour minute) offset) result time.new }
+    ensures { MovedIs (moved_by (date_time year month day hour minute) offset) result time.new }
 {
     let t = DateTime {
         year: year,

@@ -1,15 +1,15 @@
 // Records of a scan read and of a file checked: the answer stands before the input, which is the rest of the record.
 ghost use Rattle.std.specs.Prelude.{◌≡◌, ◌<◌};
-ghost use Rattle.test_cases.specs.Agreement.{recordedScan, sameScan, scanAgrees, fileAgrees};
+ghost use Rattle.test_cases.specs.Agreement.{recorded_scan, same_scan, scan_agrees, file_agrees};
 
 use scans::Scan;
 use test_answers::{count_at, half_at, number_at, pair_at};
 
 // A scan among a record's bytes: tag, guard and pair.
-#[tactic(auto, unfolding(crate::specs::Agreement::recordedScan))]
+#[tactic(auto, unfolding(crate::specs::Agreement::recorded_scan))]
 pub(crate) fn scan_at(r: &[u8], at: usize) -> Scan
     requires { at < 100 }
-    ensures { result ≡ recordedScan r.now at }
+    ensures { result ≡ recorded_scan r.now at }
 {
     Scan {
         tag: half_at(r, at),
@@ -19,7 +19,7 @@ pub(crate) fn scan_at(r: &[u8], at: usize) -> Scan
 }
 
 fn is_same(x: Scan, y: Scan) -> bool
-    ensures { result ≡ sameScan x y }
+    ensures { result ≡ same_scan x y }
 {
     let s = x.stamp;
     let t = y.stamp;
@@ -28,9 +28,9 @@ fn is_same(x: Scan, y: Scan) -> bool
         & ((s.packed_fields == t.packed_fields) & (s.attoseconds == t.attoseconds))
 }
 
-#[tactic(auto, unfolding(crate::specs::Agreement::scanAgrees))]
+#[tactic(auto, unfolding(crate::specs::Agreement::scan_agrees))]
 pub(crate) fn scan_agrees(r: &[u8]) -> bool
-    ensures { result ≡ scanAgrees r.now }
+    ensures { result ≡ scan_agrees r.now }
 {
     if r.len() < 27 {
         return false;
@@ -40,9 +40,9 @@ pub(crate) fn scan_agrees(r: &[u8]) -> bool
     (a.number == number_at(r, 0)) & is_same(scan, scan_at(r, 1)) & (a.taken == count_at(r, 25))
 }
 
-#[tactic(auto, unfolding(crate::specs::Agreement::fileAgrees))]
+#[tactic(auto, unfolding(crate::specs::Agreement::file_agrees))]
 pub(crate) fn file_agrees(r: &[u8]) -> bool
-    ensures { result ≡ fileAgrees r.now }
+    ensures { result ≡ file_agrees r.now }
 {
     if r.len() < 3 {
         return false;

@@ -1,9 +1,9 @@
 // Calls that give a pair: building from a field set in numbers, the packed check and the UTC form.
-ghost use Rattle.ion.specs.Calls.Check.{checkOf};
-ghost use Rattle.ion.specs.Calls.Utc.{utcOf};
-ghost use Rattle.ion.specs.Pair.Pair.{packedPair};
+ghost use Rattle.ion.specs.Calls.Check.{check_of};
+ghost use Rattle.ion.specs.Calls.Utc.{utc_of};
+ghost use Rattle.ion.specs.Pair.Pair.{packed_pair};
 ghost use Rattle.test_results.specs.Answers.{BuiltIs};
-ghost use Rattle.test_field_sets.specs.FieldSets.{fieldSet, builtFrom};
+ghost use Rattle.test_field_sets.specs.FieldSets.{field_set, built_from};
 
 use test_field_sets::{FieldSet, build_from};
 use test_results::{pair, store_built};
@@ -30,7 +30,7 @@ pub extern "C" fn timestamp_build(
     word: &mut u64,
     attoseconds: &mut u64,
 ) -> u32
-    ensures { BuiltIs (builtFrom (fieldSet stage month0 day0 both year month day hour minute second fraction amount digits
+    ensures { BuiltIs (built_from (field_set stage month0 day0 both year month day hour minute second fraction amount digits
         coefficient exponent offset minutes)) result word.new attoseconds.new }
 {
     let x = FieldSet {
@@ -57,14 +57,14 @@ pub extern "C" fn timestamp_build(
 
 #[unsafe(no_mangle)]
 pub extern "C" fn timestamp_check(w: u64, a: u64, word: &mut u64, attoseconds: &mut u64) -> u32
-    ensures { BuiltIs (checkOf (packedPair w a)) result word.new attoseconds.new }
+    ensures { BuiltIs (check_of (packed_pair w a)) result word.new attoseconds.new }
 {
     store_built(timestamp::try_from_bits(w, a), word, attoseconds)
 }
 
 #[unsafe(no_mangle)]
 pub extern "C" fn timestamp_to_utc(w: u64, a: u64, word: &mut u64, attoseconds: &mut u64) -> u32
-    ensures { BuiltIs (utcOf (packedPair w a)) result word.new attoseconds.new }
+    ensures { BuiltIs (utc_of (packed_pair w a)) result word.new attoseconds.new }
 {
     store_built(timestamp::to_utc(pair(w, a)), word, attoseconds)
 }

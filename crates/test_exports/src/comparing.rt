@@ -1,34 +1,34 @@
 // Order, equality and distance of two packed pairs.
-ghost use Rattle.ion.specs.Pair.Pair.{packedPair};
-ghost use Rattle.ion.specs.Calls.Order.{cmpOf, eqOf, ionCmpOf, ionEqOf, distanceOf};
+ghost use Rattle.ion.specs.Pair.Pair.{packed_pair};
+ghost use Rattle.ion.specs.Calls.Order.{cmp_of, eq_of, ion_cmp_of, ion_eq_of, distance_of};
 ghost use Rattle.test_results.specs.Answers.{OrderedIs, ComparedIs, DistanceIs};
 
 use test_results::{pair, store_compared, store_distance, store_ordered};
 
 #[unsafe(no_mangle)]
 pub extern "C" fn timestamp_cmp(w: u64, a: u64, v: u64, b: u64, order: &mut i32) -> u32
-    ensures { OrderedIs (cmpOf (packedPair w a) (packedPair v b)) result order.new }
+    ensures { OrderedIs (cmp_of (packed_pair w a) (packed_pair v b)) result order.new }
 {
     store_ordered(order::cmp(pair(w, a), pair(v, b)), order)
 }
 
 #[unsafe(no_mangle)]
 pub extern "C" fn timestamp_eq(w: u64, a: u64, v: u64, b: u64, equal: &mut bool) -> u32
-    ensures { ComparedIs (eqOf (packedPair w a) (packedPair v b)) result equal.new }
+    ensures { ComparedIs (eq_of (packed_pair w a) (packed_pair v b)) result equal.new }
 {
     store_compared(order::eq(pair(w, a), pair(v, b)), equal)
 }
 
 #[unsafe(no_mangle)]
 pub extern "C" fn timestamp_ion_cmp(w: u64, a: u64, v: u64, b: u64, order: &mut i32) -> u32
-    ensures { OrderedIs (ionCmpOf (packedPair w a) (packedPair v b)) result order.new }
+    ensures { OrderedIs (ion_cmp_of (packed_pair w a) (packed_pair v b)) result order.new }
 {
     store_ordered(order::ion_cmp(pair(w, a), pair(v, b)), order)
 }
 
 #[unsafe(no_mangle)]
 pub extern "C" fn timestamp_ion_eq(w: u64, a: u64, v: u64, b: u64, equal: &mut bool) -> u32
-    ensures { ComparedIs (ionEqOf (packedPair w a) (packedPair v b)) result equal.new }
+    ensures { ComparedIs (ion_eq_of (packed_pair w a) (packed_pair v b)) result equal.new }
 {
     store_compared(order::ion_eq(pair(w, a), pair(v, b)), equal)
 }
@@ -43,7 +43,7 @@ pub extern "C" fn timestamp_distance(
     seconds: &mut u64,
     attoseconds: &mut u64,
 ) -> u32
-    ensures { DistanceIs (distanceOf (packedPair w a) (packedPair v b)) result sign.new seconds.new
+    ensures { DistanceIs (distance_of (packed_pair w a) (packed_pair v b)) result sign.new seconds.new
         attoseconds.new }
 {
     store_distance(

@@ -1,18 +1,18 @@
 // The fields of a timestamp.
 ghost use Rattle.std.specs.Prelude.{◌≡◌};
-ghost use Rattle.ion.specs.Pair.Pair.{packedPair};
-ghost use Rattle.ion.specs.Calls.Reads.{attosecondsFieldOf, decimalFieldOf, offsetFieldOf};
+ghost use Rattle.ion.specs.Pair.Pair.{packed_pair};
+ghost use Rattle.ion.specs.Calls.Reads.{attoseconds_field_of, decimal_field_of, offset_field_of};
 ghost use Rattle.test_results.specs.Answers.{FieldIs, AttosecondsIs, DecimalIs, OffsetIs};
-ghost use Rattle.test_exports.specs.Reading.{fieldBy};
+ghost use Rattle.test_exports.specs.Reading.{field_by};
 
 use ion::{Field, Timestamp};
 use test_field_sets::UNKNOWN_CODE;
 use test_results::{pair, store_attoseconds, store_decimal, store_field, store_offset};
 
 // The field of a code.
-#[tactic(auto, unfolding(crate::specs::Reading::fieldBy))]
+#[tactic(auto, unfolding(crate::specs::Reading::field_by))]
 fn field_by(code: u32, s: Timestamp) -> Field
-    ensures { result ≡ fieldBy code s }
+    ensures { result ≡ field_by code s }
 {
     match code {
         0 => timestamp_fields::year(s),
@@ -35,21 +35,21 @@ fn field_by(code: u32, s: Timestamp) -> Field
 
 #[unsafe(no_mangle)]
 pub extern "C" fn timestamp_field(code: u32, w: u64, a: u64, value: &mut u32) -> u32
-    ensures { FieldIs (fieldBy code (packedPair w a)) result value.new }
+    ensures { FieldIs (field_by code (packed_pair w a)) result value.new }
 {
     store_field(field_by(code, pair(w, a)), value)
 }
 
 #[unsafe(no_mangle)]
 pub extern "C" fn timestamp_offset(w: u64, a: u64, known: &mut bool, minutes: &mut i32) -> u32
-    ensures { OffsetIs (offsetFieldOf (packedPair w a)) result known.new minutes.new }
+    ensures { OffsetIs (offset_field_of (packed_pair w a)) result known.new minutes.new }
 {
     store_offset(timestamp_fields::offset(pair(w, a)), known, minutes)
 }
 
 #[unsafe(no_mangle)]
 pub extern "C" fn timestamp_attoseconds(w: u64, a: u64, value: &mut u64) -> u32
-    ensures { AttosecondsIs (attosecondsFieldOf (packedPair w a)) result value.new }
+    ensures { AttosecondsIs (attoseconds_field_of (packed_pair w a)) result value.new }
 {
     store_attoseconds(timestamp_fields::attoseconds(pair(w, a)), value)
 }
@@ -61,7 +61,7 @@ pub extern "C" fn timestamp_fractional_seconds(
     coefficient: &mut u64,
     exponent: &mut i64,
 ) -> u32
-    ensures { DecimalIs (decimalFieldOf (packedPair w a)) result coefficient.new exponent.new }
+    ensures { DecimalIs (decimal_field_of (packed_pair w a)) result coefficient.new exponent.new }
 {
     let x = timestamp_fields::fractional_seconds_as_decimal(pair(w, a));
     store_decimal(x, coefficient, exponent)

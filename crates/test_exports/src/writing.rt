@@ -1,12 +1,12 @@
 // Text and value bytes, written and read, and single numbers written.
 ghost use Rattle.std.specs.Prelude.{◌≡◌};
-ghost use Rattle.ion.specs.Pair.Pair.{packedPair};
-ghost use Rattle.ion.specs.Calls.Check.{checkNumber};
-ghost use Rattle.ion.specs.Calls.Output.{put, wrote, putAfter, wroteAfter};
-ghost use Rattle.ion.specs.Value.ReadValue.{readValue};
-ghost use Rattle.ion.specs.Text.Format.{textOf};
-ghost use Rattle.ion.specs.Text.ReadText.{readTextOf};
-ghost use Rattle.ion.specs.Value.Encode.{bodyOf, valueOf};
+ghost use Rattle.ion.specs.Pair.Pair.{packed_pair};
+ghost use Rattle.ion.specs.Calls.Check.{check_number};
+ghost use Rattle.ion.specs.Calls.Output.{put, wrote, put_after, wrote_after};
+ghost use Rattle.ion.specs.Value.ReadValue.{read_value};
+ghost use Rattle.ion.specs.Text.Format.{text_of};
+ghost use Rattle.ion.specs.Text.ReadText.{read_text_of};
+ghost use Rattle.ion.specs.Value.Encode.{body_of, value_of};
 ghost use Rattle.ion.specs.Numbers.Padded.{padded};
 ghost use Rattle.ion.specs.Numbers.VarInt.{varint};
 ghost use Rattle.ion.specs.Numbers.VarUInt.{varuint};
@@ -18,20 +18,20 @@ use text::text_formatter;
 
 #[unsafe(no_mangle)]
 pub extern "C" fn timestamp_text(w: u64, a: u64, buf: &mut [u8], written: &mut usize) -> u32
-    ensures written { let s = packedPair w a in
-        WrittenIs (wroteAfter (checkNumber s) buf.old 0 (textOf s)) result written.new }
-    ensures buffer { let s = packedPair w a in
-        buf.new ≡ putAfter (checkNumber s) buf.old 0 (textOf s) }
+    ensures written { let s = packed_pair w a in
+        WrittenIs (wrote_after (check_number s) buf.old 0 (text_of s)) result written.new }
+    ensures buffer { let s = packed_pair w a in
+        buf.new ≡ put_after (check_number s) buf.old 0 (text_of s) }
 {
     store_written(timestamp_text::format(buf, 0, pair(w, a)), written)
 }
 
 #[unsafe(no_mangle)]
 pub extern "C" fn timestamp_value(w: u64, a: u64, buf: &mut [u8], written: &mut usize) -> u32
-    ensures written { let s = packedPair w a in
-        WrittenIs (wroteAfter (checkNumber s) buf.old 0 (valueOf s)) result written.new }
-    ensures buffer { let s = packedPair w a in
-        buf.new ≡ putAfter (checkNumber s) buf.old 0 (valueOf s) }
+    ensures written { let s = packed_pair w a in
+        WrittenIs (wrote_after (check_number s) buf.old 0 (value_of s)) result written.new }
+    ensures buffer { let s = packed_pair w a in
+        buf.new ≡ put_after (check_number s) buf.old 0 (value_of s) }
 {
     let x = timestamp_binary::encode_timestamp_value(buf, 0, pair(w, a));
     store_written(x, written)
@@ -39,10 +39,10 @@ pub extern "C" fn timestamp_value(w: u64, a: u64, buf: &mut [u8], written: &mut 
 
 #[unsafe(no_mangle)]
 pub extern "C" fn timestamp_body(w: u64, a: u64, buf: &mut [u8], written: &mut usize) -> u32
-    ensures written { let s = packedPair w a in
-        WrittenIs (wroteAfter (checkNumber s) buf.old 0 (bodyOf s)) result written.new }
-    ensures buffer { let s = packedPair w a in
-        buf.new ≡ putAfter (checkNumber s) buf.old 0 (bodyOf s) }
+    ensures written { let s = packed_pair w a in
+        WrittenIs (wrote_after (check_number s) buf.old 0 (body_of s)) result written.new }
+    ensures buffer { let s = packed_pair w a in
+        buf.new ≡ put_after (check_number s) buf.old 0 (body_of s) }
 {
     let x = timestamp_binary::encode_timestamp(buf, 0, pair(w, a));
     store_written(x, written)
@@ -55,14 +55,14 @@ pub extern "C" fn timestamp_read(
     attoseconds: &mut u64,
     taken: &mut usize,
 ) -> u32
-    ensures { ReadIs (readValue input.now) result word.new attoseconds.new taken.new }
+    ensures { ReadIs (read_value input.now) result word.new attoseconds.new taken.new }
 {
     store_read(value_reader::read_value(input), word, attoseconds, taken)
 }
 
 #[unsafe(no_mangle)]
 pub extern "C" fn timestamp_read_text(s: &[u8], word: &mut u64, attoseconds: &mut u64) -> u32
-    ensures { BuiltIs (readTextOf s.now) result word.new attoseconds.new }
+    ensures { BuiltIs (read_text_of s.now) result word.new attoseconds.new }
 {
     store_built(text_reader::read_text(s), word, attoseconds)
 }

@@ -1,10 +1,10 @@
 -- A staged field set in numbers, and the builder's fields that it stands for. Assumes nothing.
 use Rattle.std.specs.Prelude.{ℕ, Bool, cond, ◌&&◌, eqb, leb, ℤ}
-use Rattle.ion.specs.Pair.Offset.{offsetMinutes}
-use Rattle.ion.specs.Pair.Fraction.{milliseconds, microseconds, nanoseconds, nanosecondsTo, decimal}
-use Rattle.ion.specs.Calls.Build.{refusedBuild, buildOf}
-use Rattle.ion.specs.Calls.Stages.{fromZero, withYear, withMonth, withDay, withHour, withHourAndMinute}
-use Rattle.ion.specs.Calls.Stages.{withSecond, withFraction, withOffset}
+use Rattle.ion.specs.Pair.Offset.{offset_minutes}
+use Rattle.ion.specs.Pair.Fraction.{milliseconds, microseconds, nanoseconds, nanoseconds_to, decimal}
+use Rattle.ion.specs.Calls.Build.{refused_build, build_of}
+use Rattle.ion.specs.Calls.Stages.{from_zero, with_year, with_month, with_day, with_hour, with_hour_and_minute}
+use Rattle.ion.specs.Calls.Stages.{with_second, with_fraction, with_offset}
 use Rattle.ion.specs.declared.Built.{Built}
 use Rattle.ion.specs.declared.Fraction.{Fraction}
 use Rattle.ion.specs.declared.BuilderFields.{BuilderFields}
@@ -12,12 +12,12 @@ use Rattle.ion.specs.declared.BuilderOffset.TheVariants.{FromLocalFields, FromUt
 use Rattle.test_field_sets.specs.declared.FieldSet.{FieldSet}
 
 -- the number of a field set with a code that stands for nothing: of tests alone, and above all of the table's
-abbrev pub unknownCode : ℕ
-unknownCode = 101
+abbrev pub unknown_code : ℕ
+unknown_code = 101
 
 -- the numbers in a row; `both` says that hour and minute are given by one call, which changes nothing
-abbrev pub fieldSet : ℕ → Bool → Bool → Bool → ℕ → ℕ → ℕ → ℕ → ℕ → ℕ → ℕ → ℕ → ℕ → ℕ → ℤ → ℕ → ℤ → FieldSet
-fieldSet stage month0 day0 both year month day hour minute second fraction amount digits coefficient exponent offset minutes =
+abbrev pub field_set : ℕ → Bool → Bool → Bool → ℕ → ℕ → ℕ → ℕ → ℕ → ℕ → ℕ → ℕ → ℕ → ℕ → ℤ → ℕ → ℤ → FieldSet
+field_set stage month0 day0 both year month day hour minute second fraction amount digits coefficient exponent offset minutes =
     record {
       stage = stage;
       month0 = month0;
@@ -40,58 +40,58 @@ fieldSet stage month0 day0 both year month day hour minute second fraction amoun
 
 -- a month or a day, counted from 0 or from 1
 abbrev pub counted : Bool → ℕ → ℕ
-counted from_zero n = cond from_zero (fromZero n) n
+counted zero_based n = cond zero_based (from_zero n) n
 
 -- 1 milliseconds, 2 microseconds, 3 nanoseconds, 4 nanoseconds to a number of digits, 5 a decimal, 6 the same with a minus sign
-abbrev pub fractionGiven : FieldSet → Fraction
-fractionGiven x =
+abbrev pub fraction_given : FieldSet → Fraction
+fraction_given x =
     cond (eqb x.fraction 1) (milliseconds x.amount)
     (cond (eqb x.fraction 2) (microseconds x.amount)
     (cond (eqb x.fraction 3) (nanoseconds x.amount)
-    (cond (eqb x.fraction 4) (nanosecondsTo x.amount x.digits)
+    (cond (eqb x.fraction 4) (nanoseconds_to x.amount x.digits)
     (decimal (record { negative = eqb x.fraction 6; coefficient = x.coefficient; exponent = x.exponent })))))
 
 -- 0 none, else the fraction of the code
-unfoldable pub withFractionGiven : FieldSet → BuilderFields → BuilderFields
-withFractionGiven x f = cond (eqb x.fraction 0) f (withFraction f (fractionGiven x))
+unfoldable pub with_fraction_given : FieldSet → BuilderFields → BuilderFields
+with_fraction_given x f = cond (eqb x.fraction 0) f (with_fraction f (fraction_given x))
 
 -- 0 none, 1 the fields are local, 2 they are in UTC
-unfoldable pub withOffsetGiven : ℕ → ℤ → BuilderFields → BuilderFields
-withOffsetGiven offset minutes f =
+unfoldable pub with_offset_given : ℕ → ℤ → BuilderFields → BuilderFields
+with_offset_given offset minutes f =
     cond (eqb offset 0) f
-    (cond (eqb offset 1) (withOffset f (FromLocalFields (offsetMinutes minutes)))
-    (withOffset f (FromUtcFields (offsetMinutes minutes))))
+    (cond (eqb offset 1) (with_offset f (FromLocalFields (offset_minutes minutes)))
+    (with_offset f (FromUtcFields (offset_minutes minutes))))
 
 -- the fields to the minute with a second, and perhaps a fraction and an offset
-abbrev pub secondGiven : FieldSet → BuilderFields → BuilderFields
-secondGiven x f = withOffsetGiven x.offset x.minutes (withFractionGiven x (withSecond f x.second))
+abbrev pub second_given : FieldSet → BuilderFields → BuilderFields
+second_given x f = with_offset_given x.offset x.minutes (with_fraction_given x (with_second f x.second))
 
 -- a date with an hour alone, an hour and a minute, or a second
-unfoldable pub timeGiven : FieldSet → BuilderFields → BuilderFields
-timeGiven x f =
-    let minute = withHourAndMinute f x.hour x.minute in
-    cond (eqb x.stage 3) (withOffsetGiven x.offset x.minutes (withHour f x.hour))
-    (cond (eqb x.stage 4) (withOffsetGiven x.offset x.minutes minute) (secondGiven x minute))
+unfoldable pub time_given : FieldSet → BuilderFields → BuilderFields
+time_given x f =
+    let minute = with_hour_and_minute f x.hour x.minute in
+    cond (eqb x.stage 3) (with_offset_given x.offset x.minutes (with_hour f x.hour))
+    (cond (eqb x.stage 4) (with_offset_given x.offset x.minutes minute) (second_given x minute))
 
 -- a year and a month
-abbrev pub monthGiven : FieldSet → BuilderFields
-monthGiven x = withMonth (withYear x.year) (counted x.month0 x.month)
+abbrev pub month_given : FieldSet → BuilderFields
+month_given x = with_month (with_year x.year) (counted x.month0 x.month)
 
 -- a date
-abbrev pub dayGiven : FieldSet → BuilderFields
-dayGiven x = withDay (monthGiven x) (counted x.day0 x.day)
+abbrev pub day_given : FieldSet → BuilderFields
+day_given x = with_day (month_given x) (counted x.day0 x.day)
 
 -- stage 0 year, 1 month, 2 day, 3 hour alone, 4 hour and minute, 5 second; what is finer is not given, a fraction only with the
 -- second, an offset only from the hour on
-unfoldable pub fieldsGiven : FieldSet → BuilderFields
-fieldsGiven x =
-    cond (eqb x.stage 0) (withYear x.year)
-    (cond (eqb x.stage 1) (monthGiven x) (cond (eqb x.stage 2) (dayGiven x) (timeGiven x (dayGiven x))))
+unfoldable pub fields_given : FieldSet → BuilderFields
+fields_given x =
+    cond (eqb x.stage 0) (with_year x.year)
+    (cond (eqb x.stage 1) (month_given x) (cond (eqb x.stage 2) (day_given x) (time_given x (day_given x))))
 
 -- whether each code stands for something
-abbrev pub isCoded : FieldSet → Bool
-isCoded x = leb x.stage 5 && leb x.fraction 6 && leb x.offset 2
+abbrev pub is_coded : FieldSet → Bool
+is_coded x = leb x.stage 5 && leb x.fraction 6 && leb x.offset 2
 
 -- what the builder answers to a field set
-unfoldable pub builtFrom : FieldSet → Built
-builtFrom x = cond (isCoded x) (buildOf (fieldsGiven x)) (refusedBuild unknownCode)
+unfoldable pub built_from : FieldSet → Built
+built_from x = cond (is_coded x) (build_of (fields_given x)) (refused_build unknown_code)

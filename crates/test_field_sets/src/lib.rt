@@ -4,7 +4,7 @@
 mod stages;
 
 ghost use Rattle.std.specs.Prelude.{◌≡◌};
-ghost use Rattle.test_field_sets.specs.FieldSets.{isCoded, builtFrom};
+ghost use Rattle.test_field_sets.specs.FieldSets.{is_coded, built_from};
 
 use ion::Built;
 use stages::build_staged;
@@ -36,15 +36,15 @@ pub struct FieldSet {
 
 // Whether each code stands for something.
 fn is_coded(x: FieldSet) -> bool
-    ensures { result ≡ isCoded x }
+    ensures { result ≡ is_coded x }
 {
     (x.stage <= 5) & (x.fraction <= 6) & (x.offset <= 2)
 }
 
 // The timestamp of a field set, or the number of its refusal.
-#[tactic(auto, unfolding(crate::specs::FieldSets::builtFrom))]
+#[tactic(auto, unfolding(crate::specs::FieldSets::built_from))]
 pub fn build_from(x: FieldSet) -> Built
-    ensures { result ≡ builtFrom x }
+    ensures { result ≡ built_from x }
 {
     if !is_coded(x) {
         return Built::refused(UNKNOWN_CODE);

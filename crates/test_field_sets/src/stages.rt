@@ -1,15 +1,15 @@
 // The builder, stage by stage, by the calls that the codes name.
 ghost use Rattle.std.specs.Prelude.{◌≡◌};
-ghost use Rattle.ion.specs.Calls.Build.{buildOf};
-ghost use Rattle.ion.specs.Calls.Stages.{withMonth, withDay, withHourAndMinute, withFraction};
-ghost use Rattle.test_field_sets.specs.FieldSets.{counted, fractionGiven, withOffsetGiven, secondGiven, timeGiven, fieldsGiven};
+ghost use Rattle.ion.specs.Calls.Build.{build_of};
+ghost use Rattle.ion.specs.Calls.Stages.{with_month, with_day, with_hour_and_minute, with_fraction};
+ghost use Rattle.test_field_sets.specs.FieldSets.{counted, fraction_given, with_offset_given, second_given, time_given, fields_given};
 
 use crate::FieldSet;
 use builder::{HasDay, HasFractionalSeconds, HasHour, HasMinute, HasMonth, HasSeconds, HasYear};
 use ion::{Built, Decimal};
 
 fn set_month(s: HasYear, from0: bool, month: u32) -> HasMonth
-    ensures { result.fields ≡ withMonth s.fields (counted from0 month) }
+    ensures { result.fields ≡ with_month s.fields (counted from0 month) }
 {
     if from0 {
         return s.with_month0(month);
@@ -18,7 +18,7 @@ fn set_month(s: HasYear, from0: bool, month: u32) -> HasMonth
 }
 
 fn set_day(s: HasMonth, from0: bool, day: u32) -> HasDay
-    ensures { result.fields ≡ withDay s.fields (counted from0 day) }
+    ensures { result.fields ≡ with_day s.fields (counted from0 day) }
 {
     if from0 {
         return s.with_day0(day);
@@ -28,7 +28,7 @@ fn set_day(s: HasMonth, from0: bool, day: u32) -> HasDay
 
 // By one call or two, which is the same.
 fn set_minute(s: HasDay, by_one_call: bool, hour: u32, minute: u32) -> HasMinute
-    ensures { result.fields ≡ withHourAndMinute s.fields hour minute }
+    ensures { result.fields ≡ with_hour_and_minute s.fields hour minute }
 {
     if by_one_call {
         return s.with_hour_and_minute(hour, minute);
@@ -37,7 +37,7 @@ fn set_minute(s: HasDay, by_one_call: bool, hour: u32, minute: u32) -> HasMinute
 }
 
 fn set_fraction(s: HasSeconds, x: FieldSet) -> HasFractionalSeconds
-    ensures { result.fields ≡ withFraction s.fields (fractionGiven x) }
+    ensures { result.fields ≡ with_fraction s.fields (fraction_given x) }
 {
     let kind = x.fraction;
     if kind == 1 {
@@ -60,9 +60,9 @@ fn set_fraction(s: HasSeconds, x: FieldSet) -> HasFractionalSeconds
 }
 
 // What is built at each stage that takes an offset: without one, from local fields, or from UTC fields.
-#[tactic(auto, unfolding(crate::specs::FieldSets::withOffsetGiven))]
+#[tactic(auto, unfolding(crate::specs::FieldSets::with_offset_given))]
 fn build_hour(s: HasHour, offset: u32, minutes: i32) -> Built
-    ensures { result ≡ buildOf (withOffsetGiven offset minutes s.fields) }
+    ensures { result ≡ build_of (with_offset_given offset minutes s.fields) }
 {
     if offset == 0 {
         return s.build();
@@ -73,9 +73,9 @@ fn build_hour(s: HasHour, offset: u32, minutes: i32) -> Built
     s.localize_to_offset(minutes).build()
 }
 
-#[tactic(auto, unfolding(crate::specs::FieldSets::withOffsetGiven))]
+#[tactic(auto, unfolding(crate::specs::FieldSets::with_offset_given))]
 fn build_minute(s: HasMinute, offset: u32, minutes: i32) -> Built
-    ensures { result ≡ buildOf (withOffsetGiven offset minutes s.fields) }
+    ensures { result ≡ build_of (with_offset_given offset minutes s.fields) }
 {
     if offset == 0 {
         return s.build();
@@ -86,9 +86,9 @@ fn build_minute(s: HasMinute, offset: u32, minutes: i32) -> Built
     s.localize_to_offset(minutes).build()
 }
 
-#[tactic(auto, unfolding(crate::specs::FieldSets::withOffsetGiven))]
+#[tactic(auto, unfolding(crate::specs::FieldSets::with_offset_given))]
 fn build_seconds(s: HasSeconds, offset: u32, minutes: i32) -> Built
-    ensures { result ≡ buildOf (withOffsetGiven offset minutes s.fields) }
+    ensures { result ≡ build_of (with_offset_given offset minutes s.fields) }
 {
     if offset == 0 {
         return s.build();
@@ -99,9 +99,9 @@ fn build_seconds(s: HasSeconds, offset: u32, minutes: i32) -> Built
     s.localize_to_offset(minutes).build()
 }
 
-#[tactic(auto, unfolding(crate::specs::FieldSets::withOffsetGiven))]
+#[tactic(auto, unfolding(crate::specs::FieldSets::with_offset_given))]
 fn build_fraction(s: HasFractionalSeconds, offset: u32, minutes: i32) -> Built
-    ensures { result ≡ buildOf (withOffsetGiven offset minutes s.fields) }
+    ensures { result ≡ build_of (with_offset_given offset minutes s.fields) }
 {
     if offset == 0 {
         return s.build();
@@ -113,9 +113,9 @@ fn build_fraction(s: HasFractionalSeconds, offset: u32, minutes: i32) -> Built
 }
 
 // A second, and perhaps a fraction of it.
-#[tactic(auto, unfolding(crate::specs::FieldSets::withFractionGiven))]
+#[tactic(auto, unfolding(crate::specs::FieldSets::with_fraction_given))]
 fn build_second(s: HasMinute, x: FieldSet) -> Built
-    ensures { result ≡ buildOf (secondGiven x s.fields) }
+    ensures { result ≡ build_of (second_given x s.fields) }
 {
     let kind = x.fraction;
     let offset = x.offset;
@@ -128,9 +128,9 @@ fn build_second(s: HasMinute, x: FieldSet) -> Built
 }
 
 // An hour alone, or what is finer.
-#[tactic(auto, unfolding(crate::specs::FieldSets::timeGiven))]
+#[tactic(auto, unfolding(crate::specs::FieldSets::time_given))]
 fn build_time(s: HasDay, x: FieldSet) -> Built
-    ensures { result ≡ buildOf (timeGiven x s.fields) }
+    ensures { result ≡ build_of (time_given x s.fields) }
 {
     let stage = x.stage;
     let offset = x.offset;
@@ -145,9 +145,9 @@ fn build_time(s: HasDay, x: FieldSet) -> Built
     build_second(minute, x)
 }
 
-#[tactic(auto, unfolding(crate::specs::FieldSets::fieldsGiven))]
+#[tactic(auto, unfolding(crate::specs::FieldSets::fields_given))]
 pub(crate) fn build_staged(x: FieldSet) -> Built
-    ensures { result ≡ buildOf (fieldsGiven x) }
+    ensures { result ≡ build_of (fields_given x) }
 {
     let stage = x.stage;
     let year = builder::with_year(x.year);

@@ -1,7 +1,7 @@
 -- What a C function hands out of an answer x: it returns the number, n, and stores the rest through references. Assumes nothing.
 use Rattle.std.specs.Prelude.{ℕ, ◌≡◌, Bool, true, false, ℤ}
-use Rattle.ion.specs.Pair.Pair.{wordIn}
-use Rattle.ion.specs.Pair.Offset.{minutesOf}
+use Rattle.ion.specs.Pair.Pair.{word_in}
+use Rattle.ion.specs.Pair.Offset.{minutes_of}
 use Rattle.ion.specs.declared.offset.Offset.{Offset}
 use Rattle.ion.specs.declared.offset.Offset.TheVariants.{Unknown, Known}
 use Rattle.ion.specs.declared.Built.{Built}
@@ -16,14 +16,14 @@ use Rattle.ion.specs.declared.Written.{Written}
 use Rattle.ion.specs.declared.Read.{Read}
 
 -- whether an offset is known
-abbrev pub isKnown : Offset → Bool
-isKnown Unknown = false
-isKnown (Known m) = true
+abbrev pub is_known : Offset → Bool
+is_known Unknown = false
+is_known (Known m) = true
 
 -- a pair
 pub record BuiltIs (x : Built) (n w a : ℕ) : Type 0 where
   pub number : n ≡ x.number
-  pub word : w ≡ wordIn x.stamp
+  pub word : w ≡ word_in x.stamp
   pub attoseconds : a ≡ x.stamp.attoseconds
 
 -- a field of 32 bits
@@ -45,8 +45,8 @@ pub record DecimalIs (x : DecimalField) (n c : ℕ) (e : ℤ) : Type 0 where
 -- an unknown offset is not known, with 0 minutes
 pub record OffsetIs (x : OffsetField) (n : ℕ) (k : Bool) (m : ℤ) : Type 0 where
   pub number : n ≡ x.number
-  pub known : k ≡ isKnown x.value
-  pub minutes : m ≡ minutesOf x.value
+  pub known : k ≡ is_known x.value
+  pub minutes : m ≡ minutes_of x.value
 
 -- an order: -1, 0 or 1
 pub record OrderedIs (x : Ordered) (n : ℕ) (o : ℤ) : Type 0 where
@@ -73,6 +73,6 @@ pub record WrittenIs (x : Written) (n k : ℕ) : Type 0 where
 -- a pair, and how many bytes it took
 pub record ReadIs (x : Read) (n w a k : ℕ) : Type 0 where
   pub number : n ≡ x.number
-  pub word : w ≡ wordIn x.stamp
+  pub word : w ≡ word_in x.stamp
   pub attoseconds : a ≡ x.stamp.attoseconds
   pub taken : k ≡ x.taken

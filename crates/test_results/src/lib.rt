@@ -2,8 +2,8 @@
 #![tactic(auto)]
 
 ghost use Rattle.std.specs.Prelude.{◌≡◌};
-ghost use Rattle.ion.specs.Pair.Pair.{packedPair};
-ghost use Rattle.test_results.specs.Answers.{BuiltIs, FieldIs, AttosecondsIs, DecimalIs, isKnown, OffsetIs};
+ghost use Rattle.ion.specs.Pair.Pair.{packed_pair};
+ghost use Rattle.test_results.specs.Answers.{BuiltIs, FieldIs, AttosecondsIs, DecimalIs, is_known, OffsetIs};
 ghost use Rattle.test_results.specs.Answers.{OrderedIs, ComparedIs, DistanceIs, WrittenIs, ReadIs};
 
 use ion::offset::Offset;
@@ -13,7 +13,7 @@ use ion::{
 };
 
 pub fn pair(w: u64, a: u64) -> Timestamp
-    ensures { result ≡ packedPair w a }
+    ensures { result ≡ packed_pair w a }
 {
     Timestamp {
         packed_fields: w,
@@ -55,7 +55,7 @@ pub fn store_decimal(x: DecimalField, coefficient: &mut u64, exponent: &mut i64)
 }
 
 fn is_known(o: Offset) -> bool
-    ensures { result ≡ isKnown o }
+    ensures { result ≡ is_known o }
 {
     match o {
         Offset::Unknown => false,

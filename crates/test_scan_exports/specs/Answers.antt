@@ -1,6 +1,6 @@
 -- What a C function hands out of an answer x: it returns the number, n, and stores the rest through references. Assumes nothing.
 use Rattle.std.specs.Prelude.{ℕ, ◌≡◌, List, [], ◌∷◌}
-use Rattle.ion.specs.Pair.Pair.{wordIn}
+use Rattle.ion.specs.Pair.Pair.{word_in}
 use Rattle.scans.specs.declared.ScanRead.{ScanRead}
 use Rattle.scans.specs.declared.FileRead.{FileRead}
 use Rattle.scans.specs.declared.Report.{Report}
@@ -10,7 +10,7 @@ pub record ScanIs (x : ScanRead) (n t g w a k : ℕ) : Type 0 where
   pub number : n ≡ x.number
   pub tag : t ≡ x.scan.tag
   pub guard : g ≡ x.scan.guard
-  pub word : w ≡ wordIn x.scan.stamp
+  pub word : w ≡ word_in x.scan.stamp
   pub attoseconds : a ≡ x.scan.stamp.attoseconds
   pub taken : k ≡ x.taken
 

@@ -1,6 +1,6 @@
 // The report over a file.
 ghost use Rattle.std.specs.Prelude.{◌≡◌};
-ghost use Rattle.scans.specs.Report.{reportOf, wordsAfter};
+ghost use Rattle.scans.specs.Report.{report_of, words_after};
 ghost use Rattle.test_scan_exports.specs.Answers.{ReportIs};
 
 use crate::answers::store_report;
@@ -13,8 +13,8 @@ pub extern "C" fn file_report(
     words: &mut [u64],
     counts: &mut [u64; 5],
 ) -> u32
-    ensures report { ReportIs (reportOf words.old w g input.now) result counts.new }
-    ensures buffer { words.new ≡ wordsAfter words.old w g input.now }
+    ensures report { ReportIs (report_of words.old w g input.now) result counts.new }
+    ensures buffer { words.new ≡ words_after words.old w g input.now }
 {
     store_report(scan_report::report(input, w, g, words), counts)
 }

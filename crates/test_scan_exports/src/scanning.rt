@@ -1,9 +1,9 @@
 // Scans written and read, and files of them checked.
 ghost use Rattle.std.specs.Prelude.{◌≡◌};
-ghost use Rattle.ion.specs.Pair.Pair.{packedPair};
-ghost use Rattle.ion.specs.Calls.Output.{putAfter, wroteAfter};
-ghost use Rattle.scans.specs.Scan.{scanOf, scanBytes, scanNumber, readScan};
-ghost use Rattle.scans.specs.File.{checkFileOf};
+ghost use Rattle.ion.specs.Pair.Pair.{packed_pair};
+ghost use Rattle.ion.specs.Calls.Output.{put_after, wrote_after};
+ghost use Rattle.scans.specs.Scan.{scan_of, scan_bytes, scan_number, read_scan};
+ghost use Rattle.scans.specs.File.{check_file_of};
 ghost use Rattle.test_results.specs.Answers.{WrittenIs};
 ghost use Rattle.test_scan_exports.specs.Answers.{ScanIs, FileIs};
 
@@ -20,7 +20,7 @@ pub extern "C" fn scan_read(
     attoseconds: &mut u64,
     taken: &mut usize,
 ) -> u32
-    ensures { ScanIs (readScan input.now) result tag.new guard.new word.new
+    ensures { ScanIs (read_scan input.now) result tag.new guard.new word.new
         attoseconds.new taken.new }
 {
     store_scan(
@@ -43,10 +43,10 @@ pub extern "C" fn scan_write(
     at: usize,
     written: &mut usize,
 ) -> u32
-    ensures written { let x = scanOf tag guard (packedPair w a) in
-        WrittenIs (wroteAfter (scanNumber x) buf.old at (scanBytes x)) result written.new }
-    ensures buffer { let x = scanOf tag guard (packedPair w a) in
-        buf.new ≡ putAfter (scanNumber x) buf.old at (scanBytes x) }
+    ensures written { let x = scan_of tag guard (packed_pair w a) in
+        WrittenIs (wrote_after (scan_number x) buf.old at (scan_bytes x)) result written.new }
+    ensures buffer { let x = scan_of tag guard (packed_pair w a) in
+        buf.new ≡ put_after (scan_number x) buf.old at (scan_bytes x) }
 {
     let scan = Scan {
         tag: tag,
@@ -58,7 +58,7 @@ pub extern "C" fn scan_write(
 
 #[unsafe(no_mangle)]
 pub extern "C" fn file_check(input: &[u8], scans: &mut usize) -> u32
-    ensures { FileIs (checkFileOf input.now) result scans.new }
+    ensures { FileIs (check_file_of input.now) result scans.new }
 {
     store_file(scan_binary::check_file(input), scans)
 }

@@ -1,14 +1,14 @@
 // Port of text/text_formatter.rs: numbers in decimal with zeros in front, written from the back.
 ghost use Rattle.std.specs.Prelude.{◌≡◌, ◌+◌, ◌-◌, ◌^◌, ◌≤◌, ◌<◌, max, length};
 ghost use Rattle.ion.specs.Calls.Output.{put, wrote, Run};
-ghost use Rattle.ion.specs.Numbers.Padded.{digitCount, padded};
+ghost use Rattle.ion.specs.Numbers.Padded.{digit_count, padded};
 
 use ion::Written;
 
 // How many digits a number below 10^5 has.
 fn digit_count_5(value: u64) -> usize
     requires { value < 10 ^ 5 }
-    ensures { result ≡ digitCount value }
+    ensures { result ≡ digit_count value }
 {
     if value < 10 {
         return 1;
@@ -27,7 +27,7 @@ fn digit_count_5(value: u64) -> usize
 
 // How many digits `value` has, without a pass over them.
 fn digit_count(value: u64) -> usize
-    ensures { result ≡ digitCount value }
+    ensures { result ≡ digit_count value }
 {
     if value < 100_000 {
         return digit_count_5(value);
@@ -43,7 +43,7 @@ fn digit_count(value: u64) -> usize
 
 // How many bytes `value` takes, padded to `width`.
 fn padded_count(value: u64, width: usize) -> usize
-    ensures { result ≡ max width (digitCount value) }
+    ensures { result ≡ max width (digit_count value) }
 {
     let n = digit_count(value);
     if n < width { width } else { n }
@@ -68,8 +68,8 @@ pub fn write_zero_padded(buf: &mut [u8], at: usize, value: u64, width: usize) ->
 // Writes `value`, with zeros in front up to `width` digits, in front of index `end`: the last digit first, each into its place,
 // until the width and the number are both done.
 pub fn put_digits(buf: &mut [u8], end: usize, value: u64, width: usize)
-    requires { (max width (digitCount value) ≤ end) × (end ≤ length buf.old) }
-    ensures { Run buf.old (end - max width (digitCount value)) (padded width value) buf.new end }
+    requires { (max width (digit_count value) ≤ end) × (end ≤ length buf.old) }
+    ensures { Run buf.old (end - max width (digit_count value)) (padded width value) buf.new end }
 {
     let mut i = end;
     let mut q = value;
@@ -85,7 +85,7 @@ pub fn put_digits(buf: &mut [u8], end: usize, value: u64, width: usize)
 
 // Writes it from index `at` on; the index after it.
 pub fn put_padded(buf: &mut [u8], at: usize, value: u64, width: usize) -> usize
-    requires { at + max width (digitCount value) ≤ length buf.old }
+    requires { at + max width (digit_count value) ≤ length buf.old }
     ensures { Run buf.old at (padded width value) buf.new result }
 {
     let n = padded_count(value, width);

@@ -11,16 +11,16 @@ use lib.ListN.{length, drop, get_or, length-append, length-drop}
 use borrow.Author.Tests.{eqb-true, eqb-false}
 use Rattle.ion.specs.Text.Ascii.{ascii}
 use Rattle.ion.specs.Numbers.Padded.{padded}
-use Rattle.ion.specs.Pair.Offset.{WithinDay, rawOf, offsetOf}
+use Rattle.ion.specs.Pair.Offset.{WithinDay, raw_of, offset_of}
 use Rattle.ion.specs.Pair.Word.{InRange}
-use Rattle.ion.specs.Calls.Refusal.{formBroken}
-use Rattle.ion.specs.Calls.Build.{toOffset, givenTime, localTime, packedOf, refusedBuild, acceptedBuild}
-use Rattle.ion.specs.Calls.Build.{buildNumber, buildPair, buildOf}
+use Rattle.ion.specs.Calls.Refusal.{form_broken}
+use Rattle.ion.specs.Calls.Build.{to_offset, given_time, local_time, packed_of, refused_build, accepted_build}
+use Rattle.ion.specs.Calls.Build.{build_number, build_pair, build_of}
 use Rattle.ion.specs.Calls.Accepted.{InBounds, Accepted}
-use Rattle.ion.specs.Calls.Check.{fromLocal}
-use Rattle.ion.specs.Calls.Stages.{withYear, withMonth, withDay, withHourAndMinute, withSecond, withFraction, withOffset}
-use Rattle.ion.specs.Text.Format.{marked, fractionText, minutesText, offsetText, fieldsText, textOf}
-use Rattle.ion.specs.Text.ReadText.{digitRun, readDigits, readMarked, digitsFraction, readText, builtFrom, readTextOf}
+use Rattle.ion.specs.Calls.Check.{from_local}
+use Rattle.ion.specs.Calls.Stages.{with_year, with_month, with_day, with_hour_and_minute, with_second, with_fraction, with_offset}
+use Rattle.ion.specs.Text.Format.{marked, fraction_text, minutes_text, offset_text, fields_text, text_of}
+use Rattle.ion.specs.Text.ReadText.{digit_run, read_digits, read_marked, digits_fraction, read_text, built_from, read_text_of}
 use Rattle.ion.specs.declared.Fields.{Fields}
 use Rattle.ion.specs.declared.Fraction.{Fraction}
 use Rattle.ion.specs.declared.BuilderFields.{BuilderFields}
@@ -30,52 +30,52 @@ use Rattle.ion.specs.declared.offset.Offset.{Offset}
 use Rattle.ion.specs.declared.offset.Offset.TheVariants.{Unknown, Known}
 use Rattle.ion.specs.declared.TextRead.{TextRead}
 use Rattle.ion.specs.declared.TextRead.TheVariants.{Form, Broken}
-use Rattle.ion.proofs.Offsets.{raw-and-back}
-use Rattle.text.proofs.Digits.{length-padded}
-use Rattle.packed.proofs.Words.{unpack-pack}
-use Rattle.builder.proofs.Routed.{build-most}
-use Rattle.builder.proofs.Times.{time-in-range, build-local}
-use Rattle.timestamp.proofs.Valid.{build-accepted}
-use Rattle.text_reader.specs.Texts.{TextFor, written, without-t, with-z}
-use Rattle.text_reader.proofs.Forms.{on-test, on-value, Holds, on-t, on-date, AtOffset, on-offset, AtDigits, on-second, read-staged}
-use Rattle.text_reader.proofs.ExactDigits.{digits-exact, next-marked, fraction-exact}
-use Rattle.text_reader.proofs.ReadBack.{text-back}
-use Rattle.text_reader.proofs.ExactOffsets.{OffsetFor, offset-exact}
+use Rattle.ion.proofs.Offsets.{raw_and_back}
+use Rattle.text.proofs.Digits.{length_padded}
+use Rattle.packed.proofs.Words.{unpack_pack}
+use Rattle.builder.proofs.Routed.{build_most}
+use Rattle.builder.proofs.Times.{time_in_range, build_local}
+use Rattle.timestamp.proofs.Valid.{build_accepted}
+use Rattle.text_reader.specs.Texts.{TextFor, written, without_t, with_z}
+use Rattle.text_reader.proofs.Forms.{on_test, on_value_lem, Holds, on_t, on_date, AtOffset, on_offset, AtDigits, on_second, read_staged}
+use Rattle.text_reader.proofs.ExactDigits.{digits_exact, next_marked, fraction_exact}
+use Rattle.text_reader.proofs.ReadBack.{text_back}
+use Rattle.text_reader.proofs.ExactOffsets.{OffsetFor, offset_exact}
 
 -- ---- what is built
 
 -- the fields of the pair that is built, and their text
 abbrev packed : BuilderFields → Fields
-packed f = packedOf f (localTime f f.offset) (toOffset f.offset)
+packed f = packed_of f (local_time f f.offset) (to_offset f.offset)
 
-abbrev builtText : BuilderFields → List ℕ
-builtText f = fieldsText (packed f) f.attoseconds
+abbrev built_text : BuilderFields → List ℕ
+built_text f = fields_text (packed f) f.attoseconds
 
-build-range : (f : BuilderFields) → buildNumber f ≡ 0 → InBounds f × InRange (packed f)
-build-range f e =
-    let p = build-local f e in
+build_range : (f : BuilderFields) → build_number f ≡ 0 → InBounds f × InRange (packed f)
+build_range f e =
+    let p = build_local f e in
     let i = p.0 in
-    (i, time-in-range f (localTime f f.offset) (toOffset f.offset) i p.1.time (omega (arith, p.1.to-year)) i.offset)
+    (i, time_in_range f (local_time f f.offset) (to_offset f.offset) i p.1.time (omega (arith, p.1.to_year)) i.offset)
 
-built-text : (f : BuilderFields) → InRange (packed f) → textOf (buildPair f) ≡ builtText f
-unfolding textOf buildPair
-built-text f r = ap (λ (g : Fields). fieldsText g f.attoseconds) (unpack-pack (packed f) r)
+built_text_lem : (f : BuilderFields) → InRange (packed f) → text_of (build_pair f) ≡ built_text f
+unfolding text_of build_pair
+built_text_lem f r = ap (λ (g : Fields). fields_text g f.attoseconds) (unpack_pack (packed f) r)
 
 -- ---- the texts that are read
 
 module _ (s : List ℕ) where
   -- s is a text of what is built of the fields f
   abbrev Exact : BuilderFields → Type 0
-  Exact f = InBounds f → (t : Timestamp) → textOf t ≡ builtText f → TextFor t s
+  Exact f = InBounds f → (t : Timestamp) → text_of t ≡ built_text f → TextFor t s
 
-  end-t : (f : BuilderFields) (w r : List ℕ) → s ≡ w ++ r → builtText f ≡ w ++ ascii "T" → r ≡ ascii "T" → Exact f
-  end-t f w r b h e i t k = written (b ∙ ap (λ (l : List ℕ). w ++ l) e ∙ sym (k ∙ h))
+  end_t_lem : (f : BuilderFields) (w r : List ℕ) → s ≡ w ++ r → built_text f ≡ w ++ ascii "T" → r ≡ ascii "T" → Exact f
+  end_t_lem f w r b h e i t k = written (b ∙ ap (λ (l : List ℕ). w ++ l) e ∙ sym (k ∙ h))
 
   -- a full date without its T
-  end-date : (f : BuilderFields) (y mo d : ℕ) → let w = padded 4 y ++ marked (code "-") mo ++ marked (code "-") d in s ≡ w ++ drop 10 s
-      → builtText f ≡ w ++ ascii "T" → drop 10 s ≡ [] → Exact f
+  end_date_lem : (f : BuilderFields) (y mo d : ℕ) → let w = padded 4 y ++ marked (code "-") mo ++ marked (code "-") d in s ≡ w ++ drop 10 s
+      → built_text f ≡ w ++ ascii "T" → drop 10 s ≡ [] → Exact f
   unfolding marked
-  end-date f y mo d b h e i t k =
+  end_date_lem f y mo d b h e i t k =
       let month = padded 4 y ++ marked (code "-") mo in
       let date = month ++ marked (code "-") d in
       let all : s ≡ date = b ∙ ap (λ (l : List ℕ). date ++ l) e ∙ append-nil date in
@@ -86,119 +86,119 @@ module _ (s : List ℕ) where
         length-drop 10 s,
         length-append (padded 4 y) (marked (code "-") mo),
         length-append month (marked (code "-") d),
-        length-padded 4 y,
-        length-padded 2 mo,
-        length-padded 2 d,
+        length_padded 4 y,
+        length_padded 2 mo,
+        length_padded 2 d,
       ) in
-      without-t ten (ap (λ (l : List ℕ). l ++ ascii "T") all ∙ sym (k ∙ h))
+      without_t ten (ap (λ (l : List ℕ). l ++ ascii "T") all ∙ sym (k ∙ h))
 
   -- the offset r after w, in which a fraction may stand
-  end-offset : (f : BuilderFields) (w r : List ℕ) → (f.digits ≤ 18 → s ≡ w ++ r)
-      → ((o : Offset) → fieldsText (packedOf f (givenTime f) o) f.attoseconds ≡ w ++ offsetText (offsetOf (rawOf o)))
+  end_offset_lem : (f : BuilderFields) (w r : List ℕ) → (f.digits ≤ 18 → s ≡ w ++ r)
+      → ((o : Offset) → fields_text (packed_of f (given_time f) o) f.attoseconds ≡ w ++ offset_text (offset_of (raw_of o)))
       → AtOffset Exact f r
-  unfolding offsetText minutesText
-  end-offset f w r b h o e i t k = go (offset-exact r o e)
+  unfolding offset_text minutes_text
+  end_offset_lem f w r b h o e i t k = go (offset_exact r o e)
     where
-      text : (o : Offset) → WithinDay (toOffset (fromLocal o)) → builtText (withOffset f (fromLocal o)) ≡ w ++ offsetText o
+      text : (o : Offset) → WithinDay (to_offset (from_local o)) → built_text (with_offset f (from_local o)) ≡ w ++ offset_text o
       text Unknown l = h Unknown
-      text (Known m) l = h (Known m) ∙ ap (λ (x : Offset). w ++ offsetText x) (raw-and-back (Known m) l)
+      text (Known m) l = h (Known m) ∙ ap (λ (x : Offset). w ++ offset_text x) (raw_and_back (Known m) l)
 
       ends : (u : List ℕ) → r ≡ u → s ≡ w ++ u
       ends u e = b i.digits ∙ ap (λ (l : List ℕ). w ++ l) e
 
       go : OffsetFor o r → TextFor t s
-      go (inl e) = written (ends (offsetText o) e ∙ sym (k ∙ text o i.offset))
-      go (inr (e, z)) = with-z w (ends (ascii "Z") e) (sym (k ∙ text o i.offset ∙ ap (λ (x : Offset). w ++ offsetText x) z))
+      go (inl e) = written (ends (offset_text o) e ∙ sym (k ∙ text o i.offset))
+      go (inr (e, z)) = with_z w (ends (ascii "Z") e) (sym (k ∙ text o i.offset ∙ ap (λ (x : Offset). w ++ offset_text x) z))
 
   -- a point, digits and an offset after w
-  end-digits : (f : BuilderFields) (w r : List ℕ) → s ≡ w ++ r
+  end_digits_lem : (f : BuilderFields) (w r : List ℕ) → s ≡ w ++ r
       → ((x : Fraction) (o : Offset)
-      → fieldsText (packedOf (withFraction f x) (givenTime f) o) x.attoseconds
-      ≡ w ++ fractionText x.digits x.attoseconds ++ offsetText (offsetOf (rawOf o)))
+      → fields_text (packed_of (with_fraction f x) (given_time f) o) x.attoseconds
+      ≡ w ++ fraction_text x.digits x.attoseconds ++ offset_text (offset_of (raw_of o)))
       → get_or r 0 0 ≡ code "." → AtDigits Exact f (drop 1 r)
-  end-digits f w r b h p k =
-      let n = digitRun (drop 1 r) in
-      let x = digitsFraction n (drop 1 r) in
-      let u = fractionText x.digits x.attoseconds in
+  end_digits_lem f w r b h p k =
+      let n = digit_run (drop 1 r) in
+      let x = digits_fraction n (drop 1 r) in
+      let u = fraction_text x.digits x.attoseconds in
       let v = drop n (drop 1 r) in
-      end-offset (withFraction f x) (w ++ u) v
-      (λ l. b ∙ ap (λ (t : List ℕ). w ++ t) (fraction-exact r p k l) ∙ sym (append_assoc w u v)) (h x)
+      end_offset_lem (with_fraction f x) (w ++ u) v
+      (λ l. b ∙ ap (λ (t : List ℕ). w ++ t) (fraction_exact r p k l) ∙ sym (append_assoc w u v)) (h x)
 
-  all-exact : Holds Exact (readText s)
-  unfolding readText fieldsText fractionText
-  all-exact =
+  all_exact : Holds Exact (read_text s)
+  unfolding read_text fields_text fraction_text
+  all_exact =
       let H = Holds Exact in
-      on-value H (readDigits 4 s) tt (λ y e.
+      on_value_lem H (read_digits 4 s) tt (λ y e.
       let w = padded 4 y in
-      let b = digits-exact 4 y s (lit≤ tt) e in
-      on-value H (readMarked (code "-") (drop 4 s)) (on-t Exact _ (drop 4 s) (end-t _ w (drop 4 s) b refl)) (λ mo e.
-      let b = next-marked s w 4 (code "-") mo (lit< tt) b e in
+      let b = digits_exact 4 y s (lit≤ tt) e in
+      on_value_lem H (read_marked (code "-") (drop 4 s)) (on_t Exact _ (drop 4 s) (end_t_lem _ w (drop 4 s) b refl)) (λ mo e.
+      let b = next_marked s w 4 (code "-") mo (lit< tt) b e in
       let w = w ++ marked (code "-") mo in
-      on-value H (readMarked (code "-") (drop 7 s)) (on-t Exact _ (drop 7 s) (end-t _ w (drop 7 s) b refl)) (λ d e.
-      let b = next-marked s w 7 (code "-") d (lit< tt) b e in
+      on_value_lem H (read_marked (code "-") (drop 7 s)) (on_t Exact _ (drop 7 s) (end_t_lem _ w (drop 7 s) b refl)) (λ d e.
+      let b = next_marked s w 7 (code "-") d (lit< tt) b e in
       let w = w ++ marked (code "-") d in
-      on-value H (readMarked (code "T") (drop 10 s))
-      (on-date Exact _ (drop 10 s) (end-date _ y mo d b refl) (end-t _ w (drop 10 s) b refl)) (λ h e.
-      let b = next-marked s w 10 (code "T") h (lit< tt) b e in
+      on_value_lem H (read_marked (code "T") (drop 10 s))
+      (on_date Exact _ (drop 10 s) (end_date_lem _ y mo d b refl) (end_t_lem _ w (drop 10 s) b refl)) (λ h e.
+      let b = next_marked s w 10 (code "T") h (lit< tt) b e in
       let w = w ++ marked (code "T") h in
-      on-value H (readMarked (code ":") (drop 13 s)) tt (λ mi e.
-      let b = next-marked s w 13 (code ":") mi (lit< tt) b e in
+      on_value_lem H (read_marked (code ":") (drop 13 s)) tt (λ mi e.
+      let b = next_marked s w 13 (code ":") mi (lit< tt) b e in
       let w = w ++ marked (code ":") mi in
-      let f = withHourAndMinute (withDay (withMonth (withYear y) mo) d) h mi in
-      on-value H (readMarked (code ":") (drop 16 s))
-      (on-offset Exact f (drop 16 s) (end-offset f w (drop 16 s) (λ l. b) (λ o. refl))) (λ n e.
-      let b = next-marked s w 16 (code ":") n (lit< tt) b e in
+      let f = with_hour_and_minute (with_day (with_month (with_year y) mo) d) h mi in
+      on_value_lem H (read_marked (code ":") (drop 16 s))
+      (on_offset Exact f (drop 16 s) (end_offset_lem f w (drop 16 s) (λ l. b) (λ o. refl))) (λ n e.
+      let b = next_marked s w 16 (code ":") n (lit< tt) b e in
       let w = w ++ marked (code ":") n in
-      let f = withSecond f n in
-      on-second Exact f (drop 19 s)
-      (end-offset f w (drop 19 s) (λ l. b) (λ o. ap (λ (l : List ℕ). l ++ offsetText (offsetOf (rawOf o))) (append-nil w)))
-      (end-digits f w (drop 19 s) b (λ x o. refl))))))))
+      let f = with_second f n in
+      on_second Exact f (drop 19 s)
+      (end_offset_lem f w (drop 19 s) (λ l. b) (λ o. ap (λ (l : List ℕ). l ++ offset_text (offset_of (raw_of o))) (append-nil w)))
+      (end_digits_lem f w (drop 19 s) b (λ x o. refl))))))))
 
 -- ---- what is answered
 
 -- a number alone, or a form whose fields are built
-on-built : (P : Built → Type 0) (s : List ℕ) → ((n : ℕ) → (n ≡ 0 → ⊥) → P (refusedBuild n))
-    → ((f : BuilderFields) → readText s ≡ Form f → buildNumber f ≡ 0 → P (acceptedBuild (buildPair f))) → P (readTextOf s)
-unfolding readTextOf buildOf
-on-built P s h k = go (readText s) k
+on_built : (P : Built → Type 0) (s : List ℕ) → ((n : ℕ) → (n ≡ 0 → ⊥) → P (refused_build n))
+    → ((f : BuilderFields) → read_text s ≡ Form f → build_number f ≡ 0 → P (accepted_build (build_pair f))) → P (read_text_of s)
+unfolding read_text_of build_of
+on_built P s h k = go (read_text s) k
   where
-    go : (x : TextRead) → ((f : BuilderFields) → x ≡ Form f → buildNumber f ≡ 0 → P (acceptedBuild (buildPair f))) → P (builtFrom x)
-    go Broken k = h formBroken (λ e. omega arith)
+    go : (x : TextRead) → ((f : BuilderFields) → x ≡ Form f → build_number f ≡ 0 → P (accepted_build (build_pair f))) → P (built_from x)
+    go Broken k = h form_broken (λ e. omega arith)
     go (Form f) k =
-        let n = buildNumber f in
-        on-test P (eqb n 0) (λ e. k f refl (eqb-true n 0 e)) (λ e. h n (eqb-false n 0 e))
+        let n = build_number f in
+        on_test P (eqb n 0) (λ e. k f refl (eqb-true n 0 e)) (λ e. h n (eqb-false n 0 e))
 
 -- 18 is answered to texts in none of the forms, and to no others
-pub broken-exact : (s : List ℕ)
-    → ((readTextOf s).number ≡ formBroken → readText s ≡ Broken) × (readText s ≡ Broken → readTextOf s ≡ refusedBuild formBroken)
-unfolding readTextOf buildOf
-broken-exact s = (go (readText s), ap builtFrom)
+pub broken_exact : (s : List ℕ)
+    → ((read_text_of s).number ≡ form_broken → read_text s ≡ Broken) × (read_text s ≡ Broken → read_text_of s ≡ refused_build form_broken)
+unfolding read_text_of build_of
+broken_exact s = (go (read_text s), ap built_from)
   where
-    go : (x : TextRead) → (builtFrom x).number ≡ formBroken → x ≡ Broken
+    go : (x : TextRead) → (built_from x).number ≡ form_broken → x ≡ Broken
     go Broken e = refl
     go (Form f) e =
-        absurd (on-test (λ (b : Built). b.number ≡ formBroken → ⊥) (eqb (buildNumber f) 0) (λ z h. omega arith)
-        (λ z h. omega (arith, build-most f)) e)
+        absurd (on_test (λ (b : Built). b.number ≡ form_broken → ⊥) (eqb (build_number f) 0) (λ z h. omega arith)
+        (λ z h. omega (arith, build_most f)) e)
 
 -- what is read as a timestamp is one of its texts
-pub text-exact : (t : Timestamp) (s : List ℕ) → readTextOf s ≡ acceptedBuild t → TextFor t s
-text-exact t s =
-    on-built (λ (b : Built). b ≡ acceptedBuild t → TextFor t s) s (λ n h e. absurd (h (ap (λ (b : Built). b.number) e))) (λ f q z e.
-    let r = build-range f z in
+pub text_exact : (t : Timestamp) (s : List ℕ) → read_text_of s ≡ accepted_build t → TextFor t s
+text_exact t s =
+    on_built (λ (b : Built). b ≡ accepted_build t → TextFor t s) s (λ n h e. absurd (h (ap (λ (b : Built). b.number) e))) (λ f q z e.
+    let r = build_range f z in
     subst (λ (u : Timestamp). TextFor u s) (ap (λ (b : Built). b.stamp) e)
-    (subst (Holds (Exact s)) q (all-exact s) r.0 (buildPair f) (built-text f r.1)))
+    (subst (Holds (Exact s)) q (all_exact s) r.0 (build_pair f) (built_text_lem f r.1)))
 
-pub read-accepted : (s : List ℕ) → (readTextOf s).number ≡ 0 → Accepted (readTextOf s).stamp
-read-accepted s =
-    on-built (λ (b : Built). b.number ≡ 0 → Accepted b.stamp) s (λ n h e. absurd (h e))
-    (λ f q z e. build-accepted f (read-staged s f q) z)
+pub read_accepted : (s : List ℕ) → (read_text_of s).number ≡ 0 → Accepted (read_text_of s).stamp
+read_accepted s =
+    on_built (λ (b : Built). b.number ≡ 0 → Accepted b.stamp) s (λ n h e. absurd (h e))
+    (λ f q z e. build_accepted f (read_staged s f q) z)
 
-pub refused-alone : (s : List ℕ) → ((readTextOf s).number ≡ 0 → ⊥) → readTextOf s ≡ refusedBuild (readTextOf s).number
-refused-alone s =
-    on-built (λ (b : Built). (b.number ≡ 0 → ⊥) → b ≡ refusedBuild b.number) s (λ n h e. refl) (λ f q z h. absurd (h refl))
+pub refused_alone : (s : List ℕ) → ((read_text_of s).number ≡ 0 → ⊥) → read_text_of s ≡ refused_build (read_text_of s).number
+refused_alone s =
+    on_built (λ (b : Built). (b.number ≡ 0 → ⊥) → b ≡ refused_build b.number) s (λ n h e. refl) (λ f q z h. absurd (h refl))
 
 -- what is read, written again, is read again as the same pair
-pub read-again : (s : List ℕ) → (readTextOf s).number ≡ 0 → readTextOf (textOf (readTextOf s).stamp) ≡ readTextOf s
-read-again s e =
-    let t = (readTextOf s).stamp in
-    text-back t (read-accepted s e) ∙ (λ i. record { number = sym e i; stamp = t })
+pub read_again : (s : List ℕ) → (read_text_of s).number ≡ 0 → read_text_of (text_of (read_text_of s).stamp) ≡ read_text_of s
+read_again s e =
+    let t = (read_text_of s).stamp in
+    text_back t (read_accepted s e) ∙ (λ i. record { number = sym e i; stamp = t })

@@ -1,19 +1,19 @@
 // The digits of a text: two after a mark, four of a year, and a run of them.
 ghost use Rattle.std.specs.Prelude.{◌≡◌, [], ◌∷◌, true, cond, ◌+◌, ◌*◌, ◌^◌, ◌≤◌, ◌<◌, ltb, length, drop};
-ghost use Rattle.ion.specs.Text.ReadText.{isDigit, digitOf, readDigits, readMarked};
+ghost use Rattle.ion.specs.Text.ReadText.{is_digit, digit_of, read_digits, read_marked};
 ghost use Rattle.text_reader.specs.Parts.{Below, RunIs};
 
 use ion::DigitsRead;
 
 fn is_digit(b: u8) -> bool
-    ensures { result ≡ isDigit b }
+    ensures { result ≡ is_digit b }
 {
     (b'0' <= b) & (b <= b'9')
 }
 
 #[tactic(auto, using(crate::proofs::Runs::digits))]
 fn two_digits(tens: u8, units: u8) -> DigitsRead
-    ensures value { result ≡ readDigits 2 (tens ∷ units ∷ []) }
+    ensures value { result ≡ read_digits 2 (tens ∷ units ∷ []) }
     ensures bound { Below 100 result }
 {
     if !(is_digit(tens) & is_digit(units)) {
@@ -26,7 +26,7 @@ fn two_digits(tens: u8, units: u8) -> DigitsRead
 #[tactic(auto, using(crate::proofs::Runs::marked_digits))]
 pub(crate) fn read_marked(s: &[u8], at: usize, mark: u8) -> DigitsRead
     requires { at < 2 ^ 63 }
-    ensures value { result ≡ readMarked mark (drop at s.now) }
+    ensures value { result ≡ read_marked mark (drop at s.now) }
     ensures bound { Below 100 result }
 {
     if s.len() < at + 3 {
@@ -41,7 +41,7 @@ pub(crate) fn read_marked(s: &[u8], at: usize, mark: u8) -> DigitsRead
 // Four digits at the beginning.
 #[tactic(auto, using(crate::proofs::Runs::years))]
 pub(crate) fn read_year(s: &[u8]) -> DigitsRead
-    ensures { result ≡ readDigits 4 s.now }
+    ensures { result ≡ read_digits 4 s.now }
 {
     if s.len() < 4 {
         return DigitsRead::Missing;
@@ -64,8 +64,8 @@ pub(crate) struct DigitRun {
 
 // The number that n digits and one more make, of which only the first 18 count.
 fn one_more(value: u64, n: usize, b: u8) -> u64
-    requires { (value < 10 ^ 18) × (isDigit b ≡ true) }
-    ensures { result ≡ cond (ltb n 18) (value * 10 + digitOf b) value }
+    requires { (value < 10 ^ 18) × (is_digit b ≡ true) }
+    ensures { result ≡ cond (ltb n 18) (value * 10 + digit_of b) value }
 {
     if n < 18 {
         return value * 10 + (b - b'0') as u64;

@@ -2,7 +2,7 @@
 ghost use Rattle.std.specs.Prelude.{◌≡◌, ◌&&◌, ◌||◌, [], ◌+◌, ◌*◌, ◌≤◌, ◌<◌, length, drop};
 ghost use Rattle.ion.specs.Text.Ascii.{ascii};
 ghost use Rattle.ion.specs.Value.ReadValue.{same};
-ghost use Rattle.text_reader.specs.Parts.{fractionRead, FractionIs, endingRead, EndingIs};
+ghost use Rattle.text_reader.specs.Parts.{fraction_read, FractionIs, ending_read, EndingIs};
 
 use crate::digits::read_run;
 use crate::offset::read_offset;
@@ -28,7 +28,7 @@ pub(crate) struct EndingRead {
 }
 
 // Whether the text ends in a T at index `at`, or there at once where that is allowed.
-#[tactic(auto, using(crate::proofs::Endings::ends_in_t))]
+#[tactic(auto, using(crate::proofs::Endings::date_ends))]
 fn ends_in_t(s: &[u8], at: usize, bare: bool) -> bool
     requires { at ≤ length s.now }
     ensures { result ≡ ((bare && same (drop at s.now) []) || same (drop at s.now) (ascii "T")) }
@@ -44,7 +44,7 @@ fn ends_in_t(s: &[u8], at: usize, bare: bool) -> bool
 }
 
 fn fraction_read(found: bool, attoseconds: u64, digits: u64, next: usize) -> FractionRead
-    ensures { result ≡ fractionRead found attoseconds digits next }
+    ensures { result ≡ fraction_read found attoseconds digits next }
 {
     FractionRead {
         found: found,
@@ -84,7 +84,7 @@ fn read_fraction(s: &[u8], count: usize) -> FractionRead
 }
 
 fn ending_read(found: bool, attoseconds: u64, digits: u64, offset: Offset) -> EndingRead
-    ensures { result ≡ endingRead found attoseconds digits offset }
+    ensures { result ≡ ending_read found attoseconds digits offset }
 {
     EndingRead {
         found: found,

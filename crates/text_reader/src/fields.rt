@@ -1,6 +1,6 @@
 // The fields of a text: as many as it begins with.
 ghost use Rattle.std.specs.Prelude.{◌≡◌};
-ghost use Rattle.text_reader.specs.Parts.{fieldsRead, FieldsAre};
+ghost use Rattle.text_reader.specs.Parts.{fields_read, FieldsAre};
 
 use crate::digits::{read_marked, read_year};
 use ion::{DigitsRead, TimestampPrecision};
@@ -28,7 +28,7 @@ fn fields_read(
     minute: u32,
     second: u32,
 ) -> FieldsRead
-    ensures { result ≡ fieldsRead count precision year month day hour minute second }
+    ensures { result ≡ fields_read count precision year month day hour minute second }
 {
     FieldsRead {
         count: count,

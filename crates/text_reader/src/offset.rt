@@ -1,6 +1,6 @@
 // The offset at the end of a text.
 ghost use Rattle.std.specs.Prelude.{◌≡◌, ◌+◌, ◌≤◌, ◌<◌, length, drop};
-ghost use Rattle.ion.specs.Text.ReadText.{signedClock, readClock, readOffset};
+ghost use Rattle.ion.specs.Text.ReadText.{signed_clock, read_clock, read_offset};
 ghost use Rattle.ion.specs.Value.ReadValue.{same};
 
 use crate::digits::read_marked;
@@ -20,10 +20,10 @@ fn is_rest(s: &[u8], at: usize, bytes: [u8; 6]) -> bool
         & (s[at + 5] == bytes[5])
 }
 
-#[tactic(auto, unfolding(ion::specs::Text::ReadText::signedClock))]
+#[tactic(auto, unfolding(ion::specs::Text::ReadText::signed_clock))]
 fn signed_clock(sign: u8, hours: u32, minutes: u32) -> OffsetRead
     requires { (hours < 100) × (minutes < 100) }
-    ensures { result ≡ signedClock sign hours minutes }
+    ensures { result ≡ signed_clock sign hours minutes }
 {
     if 59 < minutes {
         return OffsetRead::Wrong;
@@ -42,7 +42,7 @@ fn signed_clock(sign: u8, hours: u32, minutes: u32) -> OffsetRead
 #[tactic(auto, using(crate::proofs::Clocks::clocks))]
 fn read_clock(s: &[u8], at: usize) -> OffsetRead
     requires { at + 6 ≡ length s.now }
-    ensures { result ≡ readClock (drop at s.now) }
+    ensures { result ≡ read_clock (drop at s.now) }
 {
     let sign = s[at];
     let DigitsRead::Value(hours) = read_marked(s, at, sign) else {
@@ -58,7 +58,7 @@ fn read_clock(s: &[u8], at: usize) -> OffsetRead
 #[tactic(auto, using(crate::proofs::Clocks::offsets))]
 pub(crate) fn read_offset(s: &[u8], at: usize) -> OffsetRead
     requires { at ≤ length s.now }
-    ensures { result ≡ readOffset (drop at s.now) }
+    ensures { result ≡ read_offset (drop at s.now) }
 {
     let left = s.len() - at;
     if left == 1 {

@@ -1,7 +1,7 @@
 // The form of a text, and the timestamp that the builder makes of it. What the parts find is handed on in structs that have one
 // reader each, so that none is copied.
 ghost use Rattle.std.specs.Prelude.{◌≡◌};
-ghost use Rattle.ion.specs.Text.ReadText.{readText, readTextOf};
+ghost use Rattle.ion.specs.Text.ReadText.{read_text, read_text_of};
 
 use crate::ending::read_ending;
 use crate::fields::read_fields;
@@ -9,7 +9,7 @@ use ion::{BuilderFields, BuilderOffset, Built, TextRead, refusal};
 
 // The fields of the text that `s` is, all of it.
 fn read_form(s: &[u8]) -> TextRead
-    ensures { result ≡ readText s.now }
+    ensures { result ≡ read_text s.now }
 {
     let f = read_fields(s);
     let count = f.count;
@@ -37,9 +37,9 @@ fn read_form(s: &[u8]) -> TextRead
 }
 
 // Reads the timestamp whose text `s` is, all of it.
-#[tactic(auto, using(crate::proofs::Forms::staged), unfolding(ion::specs::Text::ReadText::readTextOf))]
+#[tactic(auto, using(crate::proofs::Forms::staged), unfolding(ion::specs::Text::ReadText::read_text_of))]
 pub fn read_text(s: &[u8]) -> Built
-    ensures { result ≡ readTextOf s.now }
+    ensures { result ≡ read_text_of s.now }
 {
     match read_form(s) {
         TextRead::Form(f) => builder::build_fields(f),

@@ -8,160 +8,160 @@ use native.Mathlib.Nat.{div-add-mod', mod-lt}
 use lib.Dec.{lit<}
 use lib.IntN.{pos, nat_abs, ◌-ℤ◌}
 use borrow.Author.Tests.{eq-eqb, eqb-true}
-use Rattle.ion.specs.Pair.Pair.{wordIn}
-use Rattle.ion.specs.Calls.Build.{acceptedBuild, buildOf}
+use Rattle.ion.specs.Pair.Pair.{word_in}
+use Rattle.ion.specs.Calls.Build.{accepted_build, build_of}
 use Rattle.ion.specs.Calls.Stages.{Stage, Gives}
-use Rattle.ion.specs.Calls.Check.{checkOf}
+use Rattle.ion.specs.Calls.Check.{check_of}
 use Rattle.ion.specs.Calls.Accepted.{Accepted}
-use Rattle.ion.specs.Pair.Count.{countOf}
-use Rattle.ion.specs.Calls.Order.{orderOf, sizeOfDifference, cmpOf, eqOf, distanceOf}
-use Rattle.ion.specs.Text.Format.{textOf}
-use Rattle.ion.specs.Value.Encode.{valueOf}
-use Rattle.ion.specs.Value.ReadValue.{readValue}
+use Rattle.ion.specs.Pair.Count.{count_of}
+use Rattle.ion.specs.Calls.Order.{order_of, size_of_difference, cmp_of, eq_of, distance_of}
+use Rattle.ion.specs.Text.Format.{text_of}
+use Rattle.ion.specs.Value.Encode.{value_of}
+use Rattle.ion.specs.Value.ReadValue.{read_value}
 use Rattle.ion.specs.declared.BuilderFields.{BuilderFields}
 use Rattle.ion.specs.declared.Timestamp.{Timestamp}
 use Rattle.ion.specs.declared.Read.{Read}
 use Rattle.ion.specs.declared.Built.{Built}
-use Rattle.timestamp.proofs.Accepts.{check-gives, check-accepts, check-zero, built-checks}
-use Rattle.order.proofs.Answers.{cmp-counts, eq-counts, distance-counts}
-use Rattle.text_reader.proofs.ReadBack.{text-back, texts-read, texts-inj, text-inj}
-use Rattle.text_reader.proofs.Exact.{text-exact}
+use Rattle.timestamp.proofs.Accepts.{check_gives, check_accepts, check_zero, built_checks}
+use Rattle.order.proofs.Answers.{cmp_counts, eq_counts, distance_counts}
+use Rattle.text_reader.proofs.ReadBack.{text_back, texts_read, texts_inj, text_inj}
+use Rattle.text_reader.proofs.Exact.{text_exact}
 use Rattle.value_reader.proofs.Values as values
-use Rattle.value_reader.proofs.Readings.{value-apart}
-use Rattle.scans.specs.Scan.{scanBytes, readScan}
+use Rattle.value_reader.proofs.Readings.{value_apart}
+use Rattle.scans.specs.Scan.{scan_bytes, read_scan}
 use Rattle.scans.specs.declared.Scan.{Scan}
 use Rattle.scans.specs.declared.ScanRead.{ScanRead}
-use Rattle.scan_laws.proofs.Scans.{Stored, scan-back, scans-apart}
-use Rattle.theorem.specs.TwoStamps.{utcCount, SignOf, Differ, ReadFromTexts, SameAnswers, TwoStamps}
-use Rattle.theorem.proofs.UtcCounts.{count-exact, order-sign}
-use Rattle.theorem.proofs.Bytes.{writes, reads-back, text-reads-back, stored, scan-writes, scan-reads-back}
+use Rattle.scan_laws.proofs.Scans.{Stored, scan_back, scans_apart}
+use Rattle.theorem.specs.TwoStamps.{utc_count, SignOf, Differ, ReadFromTexts, SameAnswers, TwoStamps}
+use Rattle.theorem.proofs.UtcCounts.{count_exact, order_sign}
+use Rattle.theorem.proofs.Bytes.{writes, reads_back, text_reads_back, stored, scan_writes, scan_reads_back}
 
 -- what a check or a reader gives back
-module _ {x : Built} (s : Timestamp) (e : x ≡ acceptedBuild s) where
-  built-stamp : x.stamp ≡ s
-  built-stamp = ap (λ (b : Built). b.stamp) e
+module _ {x : Built} (s : Timestamp) (e : x ≡ accepted_build s) where
+  built_stamp : x.stamp ≡ s
+  built_stamp = ap (λ (b : Built). b.stamp) e
 
-  built-number : x.number ≡ 0
-  built-number = ap (λ (b : Built). b.number) e
+  built_number : x.number ≡ 0
+  built_number = ap (λ (b : Built). b.number) e
 
 module _ (s : Timestamp) (p : Accepted s) (r : List ℕ) where
   -- what is read of the value with any bytes after it
-  value-stamp : (readValue (valueOf s ++ r)).stamp ≡ s
-  value-stamp = ap (λ (x : Read). x.stamp) (values.value-back s p r)
+  value_stamp : (read_value (value_of s ++ r)).stamp ≡ s
+  value_stamp = ap (λ (x : Read). x.stamp) (values.value_back s p r)
 
-  value-number : (readValue (valueOf s ++ r)).number ≡ 0
-  value-number = ap (λ (x : Read). x.number) (values.value-back s p r)
+  value_number : (read_value (value_of s ++ r)).number ≡ 0
+  value_number = ap (λ (x : Read). x.number) (values.value_back s p r)
 
-same-answers : {x y a b : Timestamp} → x ≡ a → y ≡ b → SameAnswers x y a b
-same-answers e f = (ap₂ distanceOf e f, ap₂ cmpOf e f, ap₂ eqOf e f)
+same_answers : {x y a b : Timestamp} → x ≡ a → y ≡ b → SameAnswers x y a b
+same_answers e f = (ap₂ distance_of e f, ap₂ cmp_of e f, ap₂ eq_of e f)
 
 -- what is read of scans with any bytes after them
-scan-read : {x : Scan} → Stored x → (r : List ℕ)
-    → ((readScan (scanBytes x ++ r)).number ≡ 0) × ((readScan (scanBytes x ++ r)).scan.stamp ≡ x.stamp)
-scan-read {x} p r = let e = scan-back x r p in (ap (λ (y : ScanRead). y.number) e, ap (λ (y : ScanRead). y.scan.stamp) e)
+scan_read : {x : Scan} → Stored x → (r : List ℕ)
+    → ((read_scan (scan_bytes x ++ r)).number ≡ 0) × ((read_scan (scan_bytes x ++ r)).scan.stamp ≡ x.stamp)
+scan_read {x} p r = let e = scan_back x r p in (ap (λ (y : ScanRead). y.number) e, ap (λ (y : ScanRead). y.scan.stamp) e)
 
 module _ {x y : Scan} (h : Stored x) (k : Stored y) where
-  scans-read : (d e : List ℕ) → ((readScan (scanBytes x ++ d)).number ≡ 0) × ((readScan (scanBytes y ++ e)).number ≡ 0)
-      × SameAnswers (readScan (scanBytes x ++ d)).scan.stamp (readScan (scanBytes y ++ e)).scan.stamp x.stamp y.stamp
-  scans-read d e =
-      let m = scan-read h d in
-      let n = scan-read k e in
-      (m.0, n.0, same-answers m.1 n.1)
+  scans_read : (d e : List ℕ) → ((read_scan (scan_bytes x ++ d)).number ≡ 0) × ((read_scan (scan_bytes y ++ e)).number ≡ 0)
+      × SameAnswers (read_scan (scan_bytes x ++ d)).scan.stamp (read_scan (scan_bytes y ++ e)).scan.stamp x.stamp y.stamp
+  scans_read d e =
+      let m = scan_read h d in
+      let n = scan_read k e in
+      (m.0, n.0, same_answers m.1 n.1)
 
-  scan-stamps : (q r : List ℕ) → scanBytes x ++ q ≡ scanBytes y ++ r → x.stamp ≡ y.stamp
-  scan-stamps q r e = ap (λ (z : Scan). z.stamp) (scans-apart x y h k q r e)
+  scan_stamps : (q r : List ℕ) → scan_bytes x ++ q ≡ scan_bytes y ++ r → x.stamp ≡ y.stamp
+  scan_stamps q r e = ap (λ (z : Scan). z.stamp) (scans_apart x y h k q r e)
 
-from-texts : (s : Timestamp) → Accepted s → ReadFromTexts s
-from-texts s p x = (text-exact s x, texts-read s x p)
+from_texts : (s : Timestamp) → Accepted s → ReadFromTexts s
+from_texts s p x = (text_exact s x, texts_read s x p)
 
-not-same : (s t : Timestamp) → Differ s t → s ≡ t → ⊥
-not-same s t d e = ⊎_elim (λ n. n (ap wordIn e)) (λ n. n (ap (λ (x : Timestamp). x.attoseconds) e)) d
+not_same : (s t : Timestamp) → Differ s t → s ≡ t → ⊥
+not_same s t d e = ⊎_elim (λ n. n (ap word_in e)) (λ n. n (ap (λ (x : Timestamp). x.attoseconds) e)) d
 
 -- bytes u and v that are the same, with any bytes after them, only where s and t are
 module _ {s t : Timestamp} (d : Differ s t) {u v : List ℕ} (apart : (q r : List ℕ) → u ++ q ≡ v ++ r → s ≡ t) where
-  bytes-differ : u ≡ v → ⊥
-  bytes-differ e = not-same s t d (apart [] [] (ap (λ (l : List ℕ). l ++ []) e))
+  bytes_differ : u ≡ v → ⊥
+  bytes_differ e = not_same s t d (apart [] [] (ap (λ (l : List ℕ). l ++ []) e))
 
-  neither-begins : (r : List ℕ) → (u ++ r ≡ v → ⊥) × (v ++ r ≡ u → ⊥)
-  neither-begins r = (
-    (λ e. not-same s t d (apart r [] (e ∙ sym (append-nil v)))),
-    (λ e. not-same s t d (apart [] r (append-nil u ∙ sym e))),
+  neither_begins : (r : List ℕ) → (u ++ r ≡ v → ⊥) × (v ++ r ≡ u → ⊥)
+  neither_begins r = (
+    (λ e. not_same s t d (apart r [] (e ∙ sym (append-nil v)))),
+    (λ e. not_same s t d (apart [] r (append-nil u ∙ sym e))),
   )
 
 module _ (a b : Timestamp) (p : Accepted a) (q : Accepted b) where
   abbrev size : ℕ
-  size = sizeOfDifference (countOf a) (countOf b)
+  size = size_of_difference (count_of a) (count_of b)
 
   -- the signed difference of the counts
-  difference : pos (countOf a) -ℤ pos (countOf b) ≡ utcCount a -ℤ utcCount b
-  difference = ap₂ ◌-ℤ◌ (count-exact a p) (count-exact b q)
+  difference : pos (count_of a) -ℤ pos (count_of b) ≡ utc_count a -ℤ utc_count b
+  difference = ap₂ ◌-ℤ◌ (count_exact a p) (count_exact b q)
 
-  sign-exact : SignOf (orderOf (countOf a) (countOf b)) (utcCount a -ℤ utcCount b)
-  sign-exact = rw (← difference) (order-sign (countOf a) (countOf b))
+  sign_exact : SignOf (order_of (count_of a) (count_of b)) (utc_count a -ℤ utc_count b)
+  sign_exact = rw (← difference) (order_sign (count_of a) (count_of b))
 
-  same-count : utcCount a ≡ utcCount b → countOf a ≡ countOf b
-  same-count e =
-      let x : pos (countOf a) ≡ pos (countOf b) = count-exact a p ∙ e ∙ sym (count-exact b q) in
+  same_count : utc_count a ≡ utc_count b → count_of a ≡ count_of b
+  same_count e =
+      let x : pos (count_of a) ≡ pos (count_of b) = count_exact a p ∙ e ∙ sym (count_exact b q) in
       cc
 
-  eq-exact : ((eqOf a b).equal ≡ true → utcCount a ≡ utcCount b) × (utcCount a ≡ utcCount b → (eqOf a b).equal ≡ true)
-  eq-exact =
-      rw (eq-counts a b p q) (
-        (λ e. sym (count-exact a p) ∙ ap pos (eqb-true (countOf a) (countOf b) e) ∙ count-exact b q),
-        (λ e. eq-eqb (countOf a) (countOf b) (same-count e)),
+  eq_exact : ((eq_of a b).equal ≡ true → utc_count a ≡ utc_count b) × (utc_count a ≡ utc_count b → (eq_of a b).equal ≡ true)
+  eq_exact =
+      rw (eq_counts a b p q) (
+        (λ e. sym (count_exact a p) ∙ ap pos (eqb-true (count_of a) (count_of b) e) ∙ count_exact b q),
+        (λ e. eq-eqb (count_of a) (count_of b) (same_count e)),
       )
 
   together : TwoStamps a b
   together =
       record {
-        count-exact = (count-exact a p, count-exact b q);
-        distance-accepted = rw (distance-counts a b p q);
-        distance-exact = rw (distance-counts a b p q) (div-add-mod' size (10 ^ 18) ∙ ap nat_abs difference);
-        distance-parts = rw (distance-counts a b p q) (mod-lt size (lit< tt));
-        distance-sign = rw (distance-counts a b p q) sign-exact;
-        cmp-accepted = rw (cmp-counts a b p q);
-        cmp-exact = rw (cmp-counts a b p q) sign-exact;
-        eq-accepted = rw (eq-counts a b p q);
-        eq-exact = eq-exact;
-        pair-back = (check-accepts a p, check-accepts b q);
-        value-back = (reads-back a p, reads-back b q);
-        text-back = (text-reads-back a p, text-reads-back b q);
-        texts-exact = (from-texts a p, from-texts b q);
-        scan-back = ((λ t g h k. scan-reads-back (stored a p t g h k)), (λ t g h k. scan-reads-back (stored b q t g h k)));
-        same-by-pair = same-answers (built-stamp a (check-accepts a p)) (built-stamp b (check-accepts b q));
-        same-by-value = λ d e. (
-          value-number a p d,
-          value-number b q e,
-          same-answers (value-stamp a p d) (value-stamp b q e),
+        count_exact = (count_exact a p, count_exact b q);
+        distance_accepted = rw (distance_counts a b p q);
+        distance_exact = rw (distance_counts a b p q) (div-add-mod' size (10 ^ 18) ∙ ap nat_abs difference);
+        distance_parts = rw (distance_counts a b p q) (mod-lt size (lit< tt));
+        distance_sign = rw (distance_counts a b p q) sign_exact;
+        cmp_accepted = rw (cmp_counts a b p q);
+        cmp_exact = rw (cmp_counts a b p q) sign_exact;
+        eq_accepted = rw (eq_counts a b p q);
+        eq_exact = eq_exact;
+        pair_back = (check_accepts a p, check_accepts b q);
+        value_back = (reads_back a p, reads_back b q);
+        text_back = (text_reads_back a p, text_reads_back b q);
+        texts_exact = (from_texts a p, from_texts b q);
+        scan_back = ((λ t g h k. scan_reads_back (stored a p t g h k)), (λ t g h k. scan_reads_back (stored b q t g h k)));
+        same_by_pair = same_answers (built_stamp a (check_accepts a p)) (built_stamp b (check_accepts b q));
+        same_by_value = λ d e. (
+          value_number a p d,
+          value_number b q e,
+          same_answers (value_stamp a p d) (value_stamp b q e),
         );
-        same-by-text = (
-          built-number a (text-back a p),
-          built-number b (text-back b q),
-          same-answers (built-stamp a (text-back a p)) (built-stamp b (text-back b q)),
+        same_by_text = (
+          built_number a (text_back a p),
+          built_number b (text_back b q),
+          same_answers (built_stamp a (text_back a p)) (built_stamp b (text_back b q)),
         );
-        same-by-scan = λ t g h k u v i j. scans-read (stored a p t g h k) (stored b q u v i j);
-        texts-written = (writes (check-zero a p) (textOf a), writes (check-zero b q) (textOf b));
-        values-written = (writes (check-zero a p) (valueOf a), writes (check-zero b q) (valueOf b));
-        scans-written = ((λ t g h k. scan-writes (stored a p t g h k)), (λ t g h k. scan-writes (stored b q t g h k)));
-        texts-differ = λ d e. not-same a b d (text-inj a b p q e);
-        texts-apart = λ d s h k. not-same a b d (texts-inj a b s p q h k);
-        values-differ = λ d. bytes-differ d (value-apart a b p q);
-        no-beginning = λ d. neither-begins d (value-apart a b p q);
-        scans-differ = λ d t g h k u v i j. bytes-differ d (scan-stamps (stored a p t g h k) (stored b q u v i j));
-        no-scan-beginning = λ d t g h k u v i j. neither-begins d (scan-stamps (stored a p t g h k) (stored b q u v i j));
+        same_by_scan = λ t g h k u v i j. scans_read (stored a p t g h k) (stored b q u v i j);
+        texts_written = (writes (check_zero a p) (text_of a), writes (check_zero b q) (text_of b));
+        values_written = (writes (check_zero a p) (value_of a), writes (check_zero b q) (value_of b));
+        scans_written = ((λ t g h k. scan_writes (stored a p t g h k)), (λ t g h k. scan_writes (stored b q t g h k)));
+        texts_differ = λ d e. not_same a b d (text_inj a b p q e);
+        texts_apart = λ d s h k. not_same a b d (texts_inj a b s p q h k);
+        values_differ = λ d. bytes_differ d (value_apart a b p q);
+        no_beginning = λ d. neither_begins d (value_apart a b p q);
+        scans_differ = λ d t g h k u v i j. bytes_differ d (scan_stamps (stored a p t g h k) (stored b q u v i j));
+        no_scan_beginning = λ d t g h k u v i j. neither_begins d (scan_stamps (stored a p t g h k) (stored b q u v i j));
       }
 
 -- for every two timestamps that the packed check accepts, whatever their precisions and offsets
-pub two-stamps : (a b : Timestamp) → (checkOf a).number ≡ 0 → (checkOf b).number ≡ 0 → TwoStamps a b
-two-stamps a b p q = together a b (check-gives a p) (check-gives b q)
+pub two_stamps : (a b : Timestamp) → (check_of a).number ≡ 0 → (check_of b).number ≡ 0 → TwoStamps a b
+two_stamps a b p q = together a b (check_gives a p) (check_gives b q)
 
 -- ---- and so for every two that the builder gives
 
-accepted-built : {t : Stage} {f : BuilderFields} → Gives t f → (buildOf f).number ≡ 0 → (checkOf (buildOf f).stamp).number ≡ 0
-accepted-built h e = ap (λ (b : Built). b.number) (built-checks h e) ∙ e
+accepted_built : {t : Stage} {f : BuilderFields} → Gives t f → (build_of f).number ≡ 0 → (check_of (build_of f).stamp).number ≡ 0
+accepted_built h e = ap (λ (b : Built). b.number) (built_checks h e) ∙ e
 
 -- of the fields that the stages give
-pub two-built :
+pub two_built :
     {t u : Stage} {f g : BuilderFields} → Gives t f → Gives u g →
-    (buildOf f).number ≡ 0 → (buildOf g).number ≡ 0 → TwoStamps (buildOf f).stamp (buildOf g).stamp
-two-built {t} {u} {f} {g} h k p q = two-stamps (buildOf f).stamp (buildOf g).stamp (accepted-built h p) (accepted-built k q)
+    (build_of f).number ≡ 0 → (build_of g).number ≡ 0 → TwoStamps (build_of f).stamp (build_of g).stamp
+two_built {t} {u} {f} {g} h k p q = two_stamps (build_of f).stamp (build_of g).stamp (accepted_built h p) (accepted_built k q)

@@ -1,47 +1,47 @@
 -- What demand 3 says of any two accepted timestamps, sentence by sentence, of the definitions that the contracts cite. Assumes nothing.
 use Rattle.std.specs.Prelude.{◌≡◌, ◌⊎◌, true, List, ◌++◌, ℕ, ◌+◌, ◌*◌, ◌^◌, ◌≤◌}
 use Rattle.std.specs.Prelude.{◌<◌, ℤ, pos, negsuc, nat_abs, ◌-ℤ◌, ◌*ℤ◌, length, take, drop}
-use Rattle.ion.specs.Pair.Pair.{wordIn}
-use Rattle.ion.specs.Pair.Word.{fieldsOf}
-use Rattle.ion.specs.Calls.Output.{over, putAfter, wroteAfter}
-use Rattle.ion.specs.Calendar.Shift.{minuteNumber}
-use Rattle.ion.specs.Calls.Build.{acceptedBuild}
-use Rattle.ion.specs.Calls.Check.{givenAt, checkOf, checkNumber}
-use Rattle.ion.specs.Calls.Accepted.{timeIn}
-use Rattle.ion.specs.Pair.Count.{attosecondsIn, offsetIn, countOf}
-use Rattle.ion.specs.Calls.Order.{cmpOf, eqOf, distanceOf}
-use Rattle.ion.specs.Text.Format.{textOf}
-use Rattle.ion.specs.Text.ReadText.{readTextOf}
-use Rattle.ion.specs.Value.Encode.{valueOf}
-use Rattle.ion.specs.Value.ReadValue.{acceptedReading, readValue}
+use Rattle.ion.specs.Pair.Pair.{word_in}
+use Rattle.ion.specs.Pair.Word.{fields_of}
+use Rattle.ion.specs.Calls.Output.{over, put_after, wrote_after}
+use Rattle.ion.specs.Calendar.Shift.{minute_number}
+use Rattle.ion.specs.Calls.Build.{accepted_build}
+use Rattle.ion.specs.Calls.Check.{given_at, check_of, check_number}
+use Rattle.ion.specs.Calls.Accepted.{time_in}
+use Rattle.ion.specs.Pair.Count.{attoseconds_in, offset_in, count_of}
+use Rattle.ion.specs.Calls.Order.{cmp_of, eq_of, distance_of}
+use Rattle.ion.specs.Text.Format.{text_of}
+use Rattle.ion.specs.Text.ReadText.{read_text_of}
+use Rattle.ion.specs.Value.Encode.{value_of}
+use Rattle.ion.specs.Value.ReadValue.{accepted_reading, read_value}
 use Rattle.ion.specs.declared.Timestamp.{Timestamp}
 use Rattle.ion.specs.declared.Fields.{Fields}
 use Rattle.text_reader.specs.Texts.{TextFor}
 use Rattle.scans.specs.Number.{largest}
-use Rattle.scans.specs.Scan.{scanOf, scanBytes, scanNumber, acceptedScan, readScan}
+use Rattle.scans.specs.Scan.{scan_of, scan_bytes, scan_number, accepted_scan, read_scan}
 use Rattle.scans.specs.declared.Scan.{Scan}
 
 -- the fields, with the first value of each that the precision does not have
-abbrev pub withFirstValues : Fields → Fields
-withFirstValues f =
+abbrev pub with_first_values : Fields → Fields
+with_first_values f =
     record {
       year = f.year;
-      month = givenAt 1 f.precision f.month 1;
-      day = givenAt 2 f.precision f.day 1;
-      hour = givenAt 3 f.precision f.hour 0;
-      minute = givenAt 3 f.precision f.minute 0;
-      second = givenAt 4 f.precision f.second 0;
+      month = given_at 1 f.precision f.month 1;
+      day = given_at 2 f.precision f.day 1;
+      hour = given_at 3 f.precision f.hour 0;
+      minute = given_at 3 f.precision f.minute 0;
+      second = given_at 4 f.precision f.second 0;
       precision = f.precision;
       digits = f.digits;
       offset = f.offset;
     }
 
 -- the UTC count in signed numbers: the local count less the offset's attoseconds
-abbrev pub utcCountIn : Fields → ℕ → ℤ
-utcCountIn f a = pos (attosecondsIn (minuteNumber (timeIn f)) f.second a) -ℤ offsetIn f *ℤ pos (60 * 10 ^ 18)
+abbrev pub utc_count_in : Fields → ℕ → ℤ
+utc_count_in f a = pos (attoseconds_in (minute_number (time_in f)) f.second a) -ℤ offset_in f *ℤ pos (60 * 10 ^ 18)
 
-abbrev pub utcCount : Timestamp → ℤ
-utcCount s = utcCountIn (withFirstValues (fieldsOf (wordIn s))) s.attoseconds
+abbrev pub utc_count : Timestamp → ℤ
+utc_count s = utc_count_in (with_first_values (fields_of (word_in s))) s.attoseconds
 
 -- an order -1, 0 or 1, and the sign of a signed number
 pub data SignOf : ℤ → ℤ → Type 0 where
@@ -51,38 +51,38 @@ pub data SignOf : ℤ → ℤ → Type 0 where
 
 -- the words or the attoseconds are not the same
 abbrev pub Differ : Timestamp → Timestamp → Type 0
-Differ a b = (wordIn a ≡ wordIn b → ⊥) ⊎ (a.attoseconds ≡ b.attoseconds → ⊥)
+Differ a b = (word_in a ≡ word_in b → ⊥) ⊎ (a.attoseconds ≡ b.attoseconds → ⊥)
 
 -- what a writer of the bytes b, whose check gave the number k, does in any buffer with room for them: it answers 0 and their number,
 -- and writes them
 abbrev pub Writes : ℕ → List ℕ → Type 0
 Writes k b =
     (d : List ℕ) (at : ℕ) → at + length b ≤ length d
-    → (wroteAfter k d at b ≡ record { number = 0; written = length b }) × (putAfter k d at b ≡ over d at b)
+    → (wrote_after k d at b ≡ record { number = 0; written = length b }) × (put_after k d at b ≡ over d at b)
 
 -- P holds of the bytes that such a writer wrote, answering 0, and of the number of bytes that it answered
 abbrev pub AsWritten : ℕ → List ℕ → (List ℕ → ℕ → Type 0) → Type 0
 AsWritten k b P =
     (d : List ℕ) (at : ℕ)
-    → let w = wroteAfter k d at b in
-    let e = putAfter k d at b in
+    → let w = wrote_after k d at b in
+    let e = put_after k d at b in
     w.number ≡ 0 → P (take w.written (drop at e)) w.written
 
 -- what the value writer wrote is read back with any bytes or none after it: the pair, and as many taken as were written
 abbrev pub ReadsBack : Timestamp → Type 0
-ReadsBack s = AsWritten (checkNumber s) (valueOf s) (λ v n. (r : List ℕ) → readValue (v ++ r) ≡ acceptedReading s n)
+ReadsBack s = AsWritten (check_number s) (value_of s) (λ v n. (r : List ℕ) → read_value (v ++ r) ≡ accepted_reading s n)
 
 -- what the text writer wrote, and nothing after it, is read back: the pair
 abbrev pub TextReadsBack : Timestamp → Type 0
-TextReadsBack s = AsWritten (checkNumber s) (textOf s) (λ x n. readTextOf x ≡ acceptedBuild s)
+TextReadsBack s = AsWritten (check_number s) (text_of s) (λ x n. read_text_of x ≡ accepted_build s)
 
 -- what the scan writer wrote is read back with any bytes or none after it: the scan, and as many taken as were written
 abbrev pub ScanReadsBack : Scan → Type 0
-ScanReadsBack x = AsWritten (scanNumber x) (scanBytes x) (λ v n. (r : List ℕ) → readScan (v ++ r) ≡ acceptedScan x n)
+ScanReadsBack x = AsWritten (scan_number x) (scan_bytes x) (λ v n. (r : List ℕ) → read_scan (v ++ r) ≡ accepted_scan x n)
 
 -- P holds of the scans of the timestamp s, with any tag and any guard up to 4,294,967,295
 abbrev pub EachScan : Timestamp → (Scan → Type 0) → Type 0
-EachScan s P = (tag guard : ℕ) → tag ≤ largest → guard ≤ largest → P (scanOf tag guard s)
+EachScan s P = (tag guard : ℕ) → tag ≤ largest → guard ≤ largest → P (scan_of tag guard s)
 
 -- P holds of any scan of a and any scan of b
 abbrev pub EachTwo : Timestamp → Timestamp → (Scan → Scan → Type 0) → Type 0
@@ -90,51 +90,51 @@ EachTwo a b P = EachScan a (λ x. EachScan b (λ y. P x y))
 
 -- the texts that are read as the timestamp s are its own, and no others
 abbrev pub ReadFromTexts : Timestamp → Type 0
-ReadFromTexts s = (x : List ℕ) → (readTextOf x ≡ acceptedBuild s → TextFor s x) × (TextFor s x → readTextOf x ≡ acceptedBuild s)
+ReadFromTexts s = (x : List ℕ) → (read_text_of x ≡ accepted_build s → TextFor s x) × (TextFor s x → read_text_of x ≡ accepted_build s)
 
 -- x and y give the answers of a and b
 abbrev pub SameAnswers : Timestamp → Timestamp → Timestamp → Timestamp → Type 0
-SameAnswers x y a b = (distanceOf x y ≡ distanceOf a b) × (cmpOf x y ≡ cmpOf a b) × (eqOf x y ≡ eqOf a b)
+SameAnswers x y a b = (distance_of x y ≡ distance_of a b) × (cmp_of x y ≡ cmp_of a b) × (eq_of x y ≡ eq_of a b)
 
 pub record TwoStamps (a b : Timestamp) : Type 0 where
   -- distance, `cmp` and `==` follow the UTC attosecond counts exactly
-  pub count-exact : (pos (countOf a) ≡ utcCount a) × (pos (countOf b) ≡ utcCount b)
-  pub distance-accepted : (distanceOf a b).number ≡ 0
-  pub distance-exact : (distanceOf a b).seconds * 10 ^ 18 + (distanceOf a b).attoseconds ≡ nat_abs (utcCount a -ℤ utcCount b)
-  pub distance-parts : (distanceOf a b).attoseconds < 10 ^ 18
-  pub distance-sign : SignOf (distanceOf a b).sign (utcCount a -ℤ utcCount b)
-  pub cmp-accepted : (cmpOf a b).number ≡ 0
-  pub cmp-exact : SignOf (cmpOf a b).order (utcCount a -ℤ utcCount b)
-  pub eq-accepted : (eqOf a b).number ≡ 0
-  pub eq-exact : ((eqOf a b).equal ≡ true → utcCount a ≡ utcCount b) × (utcCount a ≡ utcCount b → (eqOf a b).equal ≡ true)
+  pub count_exact : (pos (count_of a) ≡ utc_count a) × (pos (count_of b) ≡ utc_count b)
+  pub distance_accepted : (distance_of a b).number ≡ 0
+  pub distance_exact : (distance_of a b).seconds * 10 ^ 18 + (distance_of a b).attoseconds ≡ nat_abs (utc_count a -ℤ utc_count b)
+  pub distance_parts : (distance_of a b).attoseconds < 10 ^ 18
+  pub distance_sign : SignOf (distance_of a b).sign (utc_count a -ℤ utc_count b)
+  pub cmp_accepted : (cmp_of a b).number ≡ 0
+  pub cmp_exact : SignOf (cmp_of a b).order (utc_count a -ℤ utc_count b)
+  pub eq_accepted : (eq_of a b).number ≡ 0
+  pub eq_exact : ((eq_of a b).equal ≡ true → utc_count a ≡ utc_count b) × (utc_count a ≡ utc_count b → (eq_of a b).equal ≡ true)
   -- through the packed pair and back
-  pub pair-back : (checkOf a ≡ acceptedBuild a) × (checkOf b ≡ acceptedBuild b)
+  pub pair_back : (check_of a ≡ accepted_build a) × (check_of b ≡ accepted_build b)
   -- through the value bytes and back, with whatever bytes after them
-  pub value-back : ReadsBack a × ReadsBack b
+  pub value_back : ReadsBack a × ReadsBack b
   -- through the text and back, and from no text but its own
-  pub text-back : TextReadsBack a × TextReadsBack b
-  pub texts-exact : ReadFromTexts a × ReadFromTexts b
+  pub text_back : TextReadsBack a × TextReadsBack b
+  pub texts_exact : ReadFromTexts a × ReadFromTexts b
   -- through a scan and back, with any tag and any guard, and whatever bytes after it
-  pub scan-back : EachScan a ScanReadsBack × EachScan b ScanReadsBack
+  pub scan_back : EachScan a ScanReadsBack × EachScan b ScanReadsBack
   -- and then the same answers
-  pub same-by-pair : SameAnswers (checkOf a).stamp (checkOf b).stamp a b
-  pub same-by-value : (d e : List ℕ) → ((readValue (valueOf a ++ d)).number ≡ 0) × ((readValue (valueOf b ++ e)).number ≡ 0)
-      × SameAnswers (readValue (valueOf a ++ d)).stamp (readValue (valueOf b ++ e)).stamp a b
-  pub same-by-text : ((readTextOf (textOf a)).number ≡ 0) × ((readTextOf (textOf b)).number ≡ 0)
-      × SameAnswers (readTextOf (textOf a)).stamp (readTextOf (textOf b)).stamp a b
-  pub same-by-scan : EachTwo a b (λ x y. (d e : List ℕ)
-      → ((readScan (scanBytes x ++ d)).number ≡ 0) × ((readScan (scanBytes y ++ e)).number ≡ 0)
-      × SameAnswers (readScan (scanBytes x ++ d)).scan.stamp (readScan (scanBytes y ++ e)).scan.stamp a b)
+  pub same_by_pair : SameAnswers (check_of a).stamp (check_of b).stamp a b
+  pub same_by_value : (d e : List ℕ) → ((read_value (value_of a ++ d)).number ≡ 0) × ((read_value (value_of b ++ e)).number ≡ 0)
+      × SameAnswers (read_value (value_of a ++ d)).stamp (read_value (value_of b ++ e)).stamp a b
+  pub same_by_text : ((read_text_of (text_of a)).number ≡ 0) × ((read_text_of (text_of b)).number ≡ 0)
+      × SameAnswers (read_text_of (text_of a)).stamp (read_text_of (text_of b)).stamp a b
+  pub same_by_scan : EachTwo a b (λ x y. (d e : List ℕ)
+      → ((read_scan (scan_bytes x ++ d)).number ≡ 0) × ((read_scan (scan_bytes y ++ e)).number ≡ 0)
+      × SameAnswers (read_scan (scan_bytes x ++ d)).scan.stamp (read_scan (scan_bytes y ++ e)).scan.stamp a b)
   -- text, value and scan are what the writers, given room for them, write
-  pub texts-written : Writes (checkNumber a) (textOf a) × Writes (checkNumber b) (textOf b)
-  pub values-written : Writes (checkNumber a) (valueOf a) × Writes (checkNumber b) (valueOf b)
-  pub scans-written : EachScan a (λ x. Writes (scanNumber x) (scanBytes x)) × EachScan b (λ x. Writes (scanNumber x) (scanBytes x))
+  pub texts_written : Writes (check_number a) (text_of a) × Writes (check_number b) (text_of b)
+  pub values_written : Writes (check_number a) (value_of a) × Writes (check_number b) (value_of b)
+  pub scans_written : EachScan a (λ x. Writes (scan_number x) (scan_bytes x)) × EachScan b (λ x. Writes (scan_number x) (scan_bytes x))
   -- different timestamps have different texts, values and scans, no text that is read as the one is read as the other, and no value or
   -- scan of the one is the beginning of the other's
-  pub texts-differ : Differ a b → textOf a ≡ textOf b → ⊥
-  pub texts-apart : Differ a b → (s : List ℕ) → TextFor a s → TextFor b s → ⊥
-  pub values-differ : Differ a b → valueOf a ≡ valueOf b → ⊥
-  pub no-beginning : Differ a b → (r : List ℕ) → (valueOf a ++ r ≡ valueOf b → ⊥) × (valueOf b ++ r ≡ valueOf a → ⊥)
-  pub scans-differ : Differ a b → EachTwo a b (λ x y. scanBytes x ≡ scanBytes y → ⊥)
-  pub no-scan-beginning : Differ a b → EachTwo a b (λ x y. (r : List ℕ)
-      → (scanBytes x ++ r ≡ scanBytes y → ⊥) × (scanBytes y ++ r ≡ scanBytes x → ⊥))
+  pub texts_differ : Differ a b → text_of a ≡ text_of b → ⊥
+  pub texts_apart : Differ a b → (s : List ℕ) → TextFor a s → TextFor b s → ⊥
+  pub values_differ : Differ a b → value_of a ≡ value_of b → ⊥
+  pub no_beginning : Differ a b → (r : List ℕ) → (value_of a ++ r ≡ value_of b → ⊥) × (value_of b ++ r ≡ value_of a → ⊥)
+  pub scans_differ : Differ a b → EachTwo a b (λ x y. scan_bytes x ≡ scan_bytes y → ⊥)
+  pub no_scan_beginning : Differ a b → EachTwo a b (λ x y. (r : List ℕ)
+      → (scan_bytes x ++ r ≡ scan_bytes y → ⊥) × (scan_bytes y ++ r ≡ scan_bytes x → ⊥))

@@ -7,99 +7,100 @@ use native.Mathlib.Nat.{mod-eq_of_lt}
 use native.Mathlib.Decide.{dec_le, dec_lt}
 use native.Mathlib.Omega.{arith}
 use borrow.Author.Tests.{lt-ltb, le-leb, lt-leb, ne_eqb}
-use Rattle.ion.specs.Pair.Offset.{WithinDay, rawOf, offsetOf}
-use Rattle.ion.specs.Pair.Word.{wordOf}
-use Rattle.ion.specs.Pair.Pair.{packedPair}
+use Rattle.ion.specs.Pair.Offset.{WithinDay, raw_of, offset_of}
+use Rattle.ion.specs.Pair.Word.{word_of}
+use Rattle.ion.specs.Pair.Pair.{packed_pair}
 use Rattle.ion.specs.Pair.Fraction.{scale}
-use Rattle.ion.specs.Calls.Build.{precisionNumber, firstOf, rangeChecks, isYear, isDay, toOffset, routeChecks, localChecks, givenTime}
-use Rattle.ion.specs.Calls.Build.{localTime, pairAt, acceptedBuild, buildAnswer, buildNumber, buildPair, buildOf}
-use Rattle.ion.specs.Calls.Check.{precisionOf, fromLocal, offsetAt, givenAt, fractionAt, rebuilt}
-use Rattle.ion.specs.Calls.Accepted.{InBounds, Staged, Valid, dateIn}
+use Rattle.ion.specs.Calls.Build.{precision_number, first_of, range_checks, is_year, is_day}
+use Rattle.ion.specs.Calls.Build.{to_offset, route_checks, local_checks, given_time}
+use Rattle.ion.specs.Calls.Build.{local_time, pair_at, accepted_build, build_answer, build_number, build_pair, build_of}
+use Rattle.ion.specs.Calls.Check.{precision_of, from_local, offset_at, given_at, fraction_at, rebuilt}
+use Rattle.ion.specs.Calls.Accepted.{InBounds, Staged, Valid, date_in}
 use Rattle.ion.specs.declared.Fields.{Fields}
 use Rattle.ion.specs.declared.BuilderFields.{BuilderFields}
 use Rattle.ion.specs.declared.offset.RawOffset.{RawOffset}
 use Rattle.ion.specs.declared.offset.Offset.{Offset}
 use Rattle.ion.specs.declared.offset.Offset.TheVariants.{Unknown, Known}
-use Rattle.ion.proofs.Offsets.{back-and-raw}
-use Rattle.calendar.proofs.Dates.{date-is, month-of, day-of}
-use Rattle.fraction.proofs.Scales.{cut-same, cut-multiple}
-use Rattle.builder.proofs.Checks.{pass-zero, pass-append}
-use Rattle.builder.proofs.Bounds.{bounds-pass, year-decides}
-use Rattle.timestamp.proofs.Rebuilt.{check-digits, check-built}
-use Rattle.timestamp.proofs.Valid.{valid-offset}
+use Rattle.ion.proofs.Offsets.{back_and_raw}
+use Rattle.calendar.proofs.Dates.{date_is, month_of_lem, day_of_lem}
+use Rattle.fraction.proofs.Scales.{cut_same, cut_multiple}
+use Rattle.builder.proofs.Checks.{pass_zero, pass_append}
+use Rattle.builder.proofs.Bounds.{bounds_pass, year_decides}
+use Rattle.timestamp.proofs.Rebuilt.{check_digits, check_built}
+use Rattle.timestamp.proofs.Valid.{valid_offset}
 
 -- 5 to 7 read as 4
-precision-min : (p : ℕ) → precisionNumber (precisionOf p) ≡ min p 4
-precision-min zero = refl
-precision-min (suc zero) = refl
-precision-min (suc (suc zero)) = refl
-precision-min (suc (suc (suc zero))) = refl
-precision-min (suc (suc (suc (suc n)))) =
+precision_min : (p : ℕ) → precision_number (precision_of p) ≡ min p 4
+precision_min zero = refl
+precision_min (suc zero) = refl
+precision_min (suc (suc zero)) = refl
+precision_min (suc (suc (suc zero))) = refl
+precision_min (suc (suc (suc (suc n)))) =
     let p = suc (suc (suc (suc n))) in
     simp (ne_eqb p 0 (omega arith), ne_eqb p 1 (omega arith), ne_eqb p 2 (omega arith), ne_eqb p 3 (omega arith)) (omega arith)
 
 -- ---- fields that the precision does not have
 
-given-first : (from p x first : ℕ) → p < from → givenAt from p x first ≡ first
-given-first from p x first h = simp (lt-leb from p h)
+given_first : (from p x first : ℕ) → p < from → given_at from p x first ≡ first
+given_first from p x first h = simp (lt-leb from p h)
 
 -- what is cut to its digits has no more than those
-fraction-multiple : (p d a : ℕ) → fractionAt p d a % scale (givenAt 4 p d 0) ≡ 0
-fraction-multiple p d a = go (dec_le 4 p) (dec_lt 0 d)
+fraction_multiple : (p d a : ℕ) → fraction_at p d a % scale (given_at 4 p d 0) ≡ 0
+fraction_multiple p d a = go (dec_le 4 p) (dec_lt 0 d)
   where
-    go : Dec (4 ≤ p) → Dec (0 < d) → fractionAt p d a % scale (givenAt 4 p d 0) ≡ 0
-    go (yes h) (yes k) = simp (le-leb 4 p h, lt-ltb 0 d k) (cut-multiple d a)
+    go : Dec (4 ≤ p) → Dec (0 < d) → fraction_at p d a % scale (given_at 4 p d 0) ≡ 0
+    go (yes h) (yes k) = simp (le-leb 4 p h, lt-ltb 0 d k) (cut_multiple d a)
     go (yes h) (no k) = let z : d ≡ 0 = omega arith in simp (le-leb 4 p h, z)
     go (no h) k = let q : p < 4 = omega arith in simp (lt-leb 4 p q)
 
-pub rebuilt-staged : (f : Fields) (a : ℕ) → Staged (rebuilt f a)
-rebuilt-staged f a =
+pub rebuilt_staged : (f : Fields) (a : ℕ) → Staged (rebuilt f a)
+rebuilt_staged f a =
     let p = f.precision in
-    let m = precision-min p in
+    let m = precision_min p in
     record {
-      month = λ k. given-first 1 p f.month 1 (omega (arith, m));
-      day = λ k. given-first 2 p f.day 1 (omega (arith, m));
-      hour = λ k. given-first 3 p f.hour 0 (omega (arith, m));
-      minute = λ k. given-first 3 p f.minute 0 (omega (arith, m));
+      month = λ k. given_first 1 p f.month 1 (omega (arith, m));
+      day = λ k. given_first 2 p f.day 1 (omega (arith, m));
+      hour = λ k. given_first 3 p f.hour 0 (omega (arith, m));
+      minute = λ k. given_first 3 p f.minute 0 (omega (arith, m));
       offset = λ k. let l : p < 3 = omega (arith, m) in simp (lt-leb 3 p l);
-      second = λ k. given-first 4 p f.second 0 (omega (arith, m));
-      digits = λ k. given-first 4 p f.digits 0 (omega (arith, m));
-      multiple = λ k. fraction-multiple p f.digits a;
+      second = λ k. given_first 4 p f.second 0 (omega (arith, m));
+      digits = λ k. given_first 4 p f.digits 0 (omega (arith, m));
+      multiple = λ k. fraction_multiple p f.digits a;
     }
 
 -- ---- valid fields: every one is handed on
 
-pub given-same : (from p x first : ℕ) → (p < from → x ≡ first) → givenAt from p x first ≡ x
-given-same from p x first h = go (dec_le from p)
+pub given_same : (from p x first : ℕ) → (p < from → x ≡ first) → given_at from p x first ≡ x
+given_same from p x first h = go (dec_le from p)
   where
-    go : Dec (from ≤ p) → givenAt from p x first ≡ x
+    go : Dec (from ≤ p) → given_at from p x first ≡ x
     go (yes k) = simp (le-leb from p k)
     go (no n) = let k : p < from = omega arith in simp (lt-leb from p k) (sym (h k))
 
-offset-same : (p : ℕ) (r : RawOffset) → (p < 3 → r.0 ≡ 0) → offsetAt p r ≡ fromLocal (offsetOf r)
-offset-same p r h = go (dec_le 3 p)
+offset_same : (p : ℕ) (r : RawOffset) → (p < 3 → r.0 ≡ 0) → offset_at p r ≡ from_local (offset_of r)
+offset_same p r h = go (dec_le 3 p)
   where
-    go : Dec (3 ≤ p) → offsetAt p r ≡ fromLocal (offsetOf r)
+    go : Dec (3 ≤ p) → offset_at p r ≡ from_local (offset_of r)
     go (yes k) = simp (le-leb 3 p k)
     go (no n) = let k : p < 3 = omega arith in simp (lt-leb 3 p k, h k)
 
-fraction-same : (p d a : ℕ) → (p < 4 → d ≡ 0) → a < 10 ^ 18 → a % scale d ≡ 0 → fractionAt p d a ≡ a
-fraction-same p d a n l m = go (dec_le 4 p) (dec_lt 0 d)
+fraction_same : (p d a : ℕ) → (p < 4 → d ≡ 0) → a < 10 ^ 18 → a % scale d ≡ 0 → fraction_at p d a ≡ a
+fraction_same p d a n l m = go (dec_le 4 p) (dec_lt 0 d)
   where
     none : d ≡ 0 → 0 ≡ a
     none e = sym (sym (mod-eq_of_lt l) ∙ ap (λ (k : ℕ). a % scale k) (sym e) ∙ m)
 
-    go : Dec (4 ≤ p) → Dec (0 < d) → fractionAt p d a ≡ a
-    go (yes h) (yes k) = simp (le-leb 4 p h, lt-ltb 0 d k) (cut-same d a m)
+    go : Dec (4 ≤ p) → Dec (0 < d) → fraction_at p d a ≡ a
+    go (yes h) (yes k) = simp (le-leb 4 p h, lt-ltb 0 d k) (cut_same d a m)
     go (yes h) (no k) = let z : d ≡ 0 = omega arith in simp (le-leb 4 p h, z) (none z)
     go (no h) k = let q : p < 4 = omega arith in simp (lt-leb 4 p q) (none (n q))
 
 -- all the fields of a word, as those of local time
-abbrev pub allOf : Fields → ℕ → BuilderFields
-allOf f a =
+abbrev pub all_of : Fields → ℕ → BuilderFields
+all_of f a =
     record {
-      precision = precisionOf f.precision;
-      offset = fromLocal (offsetOf f.offset);
+      precision = precision_of f.precision;
+      offset = from_local (offset_of f.offset);
       year = f.year;
       month = f.month;
       day = f.day;
@@ -110,20 +111,20 @@ allOf f a =
       digits = f.digits;
     }
 
-rebuilt-all : {f : Fields} {a : ℕ} → Valid f a → rebuilt f a ≡ allOf f a
-rebuilt-all {f} {a} v =
+rebuilt_all : {f : Fields} {a : ℕ} → Valid f a → rebuilt f a ≡ all_of f a
+rebuilt_all {f} {a} v =
     let p = f.precision in
-    let o = offset-same p f.offset v.no-offset in
-    let mo = given-same 1 p f.month 1 v.no-month in
-    let d = given-same 2 p f.day 1 v.no-day in
-    let h = given-same 3 p f.hour 0 v.no-hour in
-    let mi = given-same 3 p f.minute 0 v.no-minute in
-    let s = given-same 4 p f.second 0 v.no-second in
-    let x = fraction-same p f.digits a v.no-digits v.attoseconds v.multiple in
-    let n = given-same 4 p f.digits 0 v.no-digits in
+    let o = offset_same p f.offset v.no_offset in
+    let mo = given_same 1 p f.month 1 v.no_month in
+    let d = given_same 2 p f.day 1 v.no_day_lem in
+    let h = given_same 3 p f.hour 0 v.no_hour in
+    let mi = given_same 3 p f.minute 0 v.no_minute in
+    let s = given_same 4 p f.second 0 v.no_second in
+    let x = fraction_same p f.digits a v.no_digits v.attoseconds v.multiple in
+    let n = given_same 4 p f.digits 0 v.no_digits in
     λ i.
     record {
-      precision = precisionOf p;
+      precision = precision_of p;
       offset = o i;
       year = f.year;
       month = mo i;
@@ -137,46 +138,48 @@ rebuilt-all {f} {a} v =
 
 -- ---- valid fields are built into their word
 
-offset-is : (o : Offset) → toOffset (fromLocal o) ≡ o
-offset-is Unknown = refl
-offset-is (Known m) = refl
+offset_is : (o : Offset) → to_offset (from_local o) ≡ o
+offset_is Unknown = refl
+offset_is (Known m) = refl
 
 -- the offset of a packed word is that of local fields
-offset-local : (b : BuilderFields) (o : Offset) → (routeChecks b (fromLocal o) ≡ localChecks b) × (localTime b (fromLocal o) ≡ givenTime b)
-offset-local b Unknown = (refl, refl)
-offset-local b (Known m) = (refl, refl)
+offset_local : (b : BuilderFields) (o : Offset)
+    → (route_checks b (from_local o) ≡ local_checks b) × (local_time b (from_local o) ≡ given_time b)
+offset_local b Unknown = (refl, refl)
+offset_local b (Known m) = (refl, refl)
 
-all-bounds : {f : Fields} {a : ℕ} → Valid f a → InBounds (allOf f a)
-all-bounds {f} {a} v =
+all_bounds : {f : Fields} {a : ℕ} → Valid f a → InBounds (all_of f a)
+all_bounds {f} {a} v =
     record {
       attoseconds = v.attoseconds;
-      year = v.to-year;
-      month = month-of (dateIn f) v.date;
-      day = day-of (dateIn f) v.date;
+      year = v.to_year;
+      month = month_of_lem (date_in f) v.date;
+      day = day_of_lem (date_in f) v.date;
       hour = v.hour;
       minute = v.minute;
       second = v.second;
       digits = v.digits;
-      offset = subst WithinDay (sym (offset-is (offsetOf f.offset))) (valid-offset v);
+      offset = subst WithinDay (sym (offset_is (offset_of f.offset))) (valid_offset v);
     }
 
-all-number : {f : Fields} {a : ℕ} → Valid f a → buildNumber (allOf f a) ≡ 0
-unfolding buildNumber
-all-number {f} {a} v =
-    let b = allOf f a in
-    let y : not (isYear f.year) ≡ false = ap not ((year-decides f.year).1 (v.from-year, v.to-year)) in
-    let d : not (isDay b) ≡ false = ap not (date-is (dateIn f) v.date) in
-    ap (λ (l : List (Bool × ℕ)). firstOf (rangeChecks b ++ l)) (offset-local b (offsetOf f.offset)).0
-    ∙ pass-zero (rangeChecks b ++ localChecks b) (pass-append (rangeChecks b) (localChecks b) (bounds-pass b (all-bounds v)) (y, (d, tt)))
+all_number : {f : Fields} {a : ℕ} → Valid f a → build_number (all_of f a) ≡ 0
+unfolding build_number
+all_number {f} {a} v =
+    let b = all_of f a in
+    let y : not (is_year f.year) ≡ false = ap not ((year_decides f.year).1 (v.from_year, v.to_year)) in
+    let d : not (is_day b) ≡ false = ap not (date_is (date_in f) v.date) in
+    ap (λ (l : List (Bool × ℕ)). first_of (range_checks b ++ l)) (offset_local b (offset_of f.offset)).0
+    ∙ pass_zero (range_checks b ++ local_checks b)
+    (pass_append (range_checks b) (local_checks b) (bounds_pass b (all_bounds v)) (y, (d, tt)))
 
-all-pair : {f : Fields} {a : ℕ} → Valid f a → buildPair (allOf f a) ≡ packedPair (wordOf f) a
-unfolding buildPair
-all-pair {f} {a} v =
-    let b = allOf f a in
-    let p : precisionNumber (precisionOf f.precision) ≡ f.precision = precision-min f.precision ∙ omega (arith, v.precision) in
-    let r : rawOf (offsetOf f.offset) ≡ f.offset = back-and-raw f.offset v.offset in
-    ap₂ (pairAt b) (offset-local b (offsetOf f.offset)).1 (offset-is (offsetOf f.offset))
-    ∙ ap (λ (g : Fields). packedPair (wordOf g) a)
+all_pair : {f : Fields} {a : ℕ} → Valid f a → build_pair (all_of f a) ≡ packed_pair (word_of f) a
+unfolding build_pair
+all_pair {f} {a} v =
+    let b = all_of f a in
+    let p : precision_number (precision_of f.precision) ≡ f.precision = precision_min f.precision ∙ omega (arith, v.precision) in
+    let r : raw_of (offset_of f.offset) ≡ f.offset = back_and_raw f.offset v.offset in
+    ap₂ (pair_at b) (offset_local b (offset_of f.offset)).1 (offset_is (offset_of f.offset))
+    ∙ ap (λ (g : Fields). packed_pair (word_of g) a)
     (λ i.
     record {
       year = f.year;
@@ -190,13 +193,13 @@ all-pair {f} {a} v =
       offset = r i;
     })
 
-valid-builds : {f : Fields} {a : ℕ} → Valid f a → buildOf (allOf f a) ≡ acceptedBuild (packedPair (wordOf f) a)
-unfolding buildOf
-valid-builds v = ap₂ buildAnswer (all-number v) (all-pair v)
+valid_builds : {f : Fields} {a : ℕ} → Valid f a → build_of (all_of f a) ≡ accepted_build (packed_pair (word_of f) a)
+unfolding build_of
+valid_builds v = ap₂ build_answer (all_number v) (all_pair v)
 
 -- what the check rebuilds of valid fields is built into their pair
-pub rebuilt-builds : {f : Fields} {a : ℕ} → Valid f a → buildOf (rebuilt f a) ≡ acceptedBuild (packedPair (wordOf f) a)
-rebuilt-builds v = ap buildOf (rebuilt-all v) ∙ valid-builds v
+pub rebuilt_builds : {f : Fields} {a : ℕ} → Valid f a → build_of (rebuilt f a) ≡ accepted_build (packed_pair (word_of f) a)
+rebuilt_builds v = ap build_of (rebuilt_all v) ∙ valid_builds v
 
 -- for the code: the check by its parts, and that the fields it hands on are staged
-pub ruleset by_parts = (check-digits, check-built, rebuilt-staged)
+pub ruleset by_parts = (check_digits, check_built, rebuilt_staged)

@@ -2,20 +2,20 @@
 use mathlib.Core.Path.{◌≡◌}
 use Prim.Native.Nat.{◌≤◌, ◌<◌}
 use borrow.Author.Tests.{lt-ltb, le-ltb}
-use Rattle.ion.specs.Calls.Refusal.{digitsRefused}
-use Rattle.ion.specs.Pair.Word.{fieldsOf}
-use Rattle.ion.specs.Pair.Pair.{wordIn}
-use Rattle.ion.specs.Calls.Build.{refusedBuild, buildOf}
-use Rattle.ion.specs.Calls.Check.{rebuilt, sameAs, checkOf}
+use Rattle.ion.specs.Calls.Refusal.{digits_refused}
+use Rattle.ion.specs.Pair.Word.{fields_of}
+use Rattle.ion.specs.Pair.Pair.{word_in}
+use Rattle.ion.specs.Calls.Build.{refused_build, build_of}
+use Rattle.ion.specs.Calls.Check.{rebuilt, same_as, check_of}
 use Rattle.ion.specs.declared.Timestamp.{Timestamp}
 
 -- more than 18 digits come first
-pub check-digits : (s : Timestamp) → 18 < (fieldsOf (wordIn s)).digits → checkOf s ≡ refusedBuild digitsRefused
-unfolding checkOf
-check-digits s h = simp (lt-ltb 18 (fieldsOf (wordIn s)).digits h)
+pub check_digits : (s : Timestamp) → 18 < (fields_of (word_in s)).digits → check_of s ≡ refused_build digits_refused
+unfolding check_of
+check_digits s h = simp (lt-ltb 18 (fields_of (word_in s)).digits h)
 
 -- else the pair is compared with what is built of the fields that the precision has
-pub check-built : (s : Timestamp) → (fieldsOf (wordIn s)).digits ≤ 18
-    → checkOf s ≡ sameAs s (buildOf (rebuilt (fieldsOf (wordIn s)) s.attoseconds))
-unfolding checkOf
-check-built s h = simp (le-ltb 18 (fieldsOf (wordIn s)).digits h)
+pub check_built : (s : Timestamp) → (fields_of (word_in s)).digits ≤ 18
+    → check_of s ≡ same_as s (build_of (rebuilt (fields_of (word_in s)) s.attoseconds))
+unfolding check_of
+check_built s h = simp (le-ltb 18 (fields_of (word_in s)).digits h)

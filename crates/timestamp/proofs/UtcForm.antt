@@ -3,66 +3,66 @@ use mathlib.Core.Path.{◌≡◌, refl, sym, ap, ◌∙◌}
 use Prim.Native.Nat.{ℕ, ◌≤◌, ◌<◌}
 use native.Mathlib.Omega.{arith}
 use lib.IntN.{ℤ, neg_ℤ, nat_abs}
-use Rattle.integers.proofs.Signs.{size-neg}
+use Rattle.integers.proofs.Signs.{size_neg}
 use Rattle.ion.specs.Calendar.Shift.{IsDateTime}
-use Rattle.ion.specs.Pair.Offset.{WithinDay, rawOf, offsetOf}
+use Rattle.ion.specs.Pair.Offset.{WithinDay, raw_of, offset_of}
 use Rattle.ion.specs.Pair.Word.{InRange}
-use Rattle.ion.specs.Calls.Accepted.{Valid, timeIn}
-use Rattle.ion.specs.Calls.Utc.{utcBy, utcFields}
+use Rattle.ion.specs.Calls.Accepted.{Valid, time_in}
+use Rattle.ion.specs.Calls.Utc.{utc_by, utc_fields}
 use Rattle.ion.specs.declared.Fields.{Fields}
 use Rattle.ion.specs.declared.offset.RawOffset.{RawOffset}
 use Rattle.ion.specs.declared.offset.Offset.{Offset}
 use Rattle.ion.specs.declared.offset.Offset.TheVariants.{Unknown, Known}
-use Rattle.ion.proofs.Offsets.{back-and-raw}
-use Rattle.calendar.proofs.Shifts.{shifted-is, shifted-year}
-use Rattle.builder.proofs.Times.{fields-in-range}
-use Rattle.timestamp.proofs.Accepts.{check-gives, check-refuses}
-use Rattle.timestamp.proofs.Valid.{valid-time, valid-offset}
+use Rattle.ion.proofs.Offsets.{back_and_raw}
+use Rattle.calendar.proofs.Shifts.{shifted_is, shifted_year}
+use Rattle.builder.proofs.Times.{fields_in_range}
+use Rattle.timestamp.proofs.Accepts.{check_gives, check_refuses}
+use Rattle.timestamp.proofs.Valid.{valid_time, valid_offset}
 
 -- the opposite of less than a day is less than a day
-pub negated-within : (z : ℤ) → nat_abs z < 1440 → nat_abs (neg_ℤ z) < 1440
-negated-within z h = omega (arith, size-neg z)
+pub negated_within : (z : ℤ) → nat_abs z < 1440 → nat_abs (neg_ℤ z) < 1440
+negated_within z h = omega (arith, size_neg z)
 
 -- what the offset leaves of the fields, and what it makes of the others
 pub record IsUtc (f g : Fields) : Type 0 where
-  pub time : IsDateTime (timeIn g)
+  pub time : IsDateTime (time_in g)
   pub year : g.year ≤ 10000
   pub second : g.second ≡ f.second
   pub precision : g.precision ≡ f.precision
   pub digits : g.digits ≡ f.digits
   pub offset : g.offset.0 ≡ 0
 
-moved : {f : Fields} {a : ℕ} (o : Offset) → offsetOf f.offset ≡ o → Valid f a → WithinDay o → IsUtc f (utcBy o f)
+moved : {f : Fields} {a : ℕ} (o : Offset) → offset_of f.offset ≡ o → Valid f a → WithinDay o → IsUtc f (utc_by o f)
 moved {f} Unknown e v w =
     record {
-      time = valid-time v;
-      year = omega (arith, v.to-year);
+      time = valid_time v;
+      year = omega (arith, v.to_year);
       second = refl;
       precision = refl;
       digits = refl;
-      offset = ap (λ (r : RawOffset). r.0) (sym (back-and-raw f.offset v.offset) ∙ ap rawOf e);
+      offset = ap (λ (r : RawOffset). r.0) (sym (back_and_raw f.offset v.offset) ∙ ap raw_of e);
     }
 moved {f} (Known m) e v w =
-    let n = negated-within m.0 w in
-    let p = valid-time v in
+    let n = negated_within m.0 w in
+    let p = valid_time v in
     record {
-      time = shifted-is (timeIn f) (neg_ℤ m.0) p;
-      year = shifted-year (timeIn f) (neg_ℤ m.0) p v.from-year v.to-year n;
+      time = shifted_is (time_in f) (neg_ℤ m.0) p;
+      year = shifted_year (time_in f) (neg_ℤ m.0) p v.from_year v.to_year n;
       second = refl;
       precision = refl;
       digits = refl;
       offset = refl;
     }
 
-pub utc-is : {f : Fields} {a : ℕ} → Valid f a → IsUtc f (utcFields f)
-unfolding utcFields
-utc-is {f} v = moved (offsetOf f.offset) refl v (valid-offset v)
+pub utc_is : {f : Fields} {a : ℕ} → Valid f a → IsUtc f (utc_fields f)
+unfolding utc_fields
+utc_is {f} v = moved (offset_of f.offset) refl v (valid_offset v)
 
-pub utc-in-range : {f : Fields} {a : ℕ} → Valid f a → InRange (utcFields f)
-utc-in-range {f} v =
-    let u = utc-is v in
-    fields-in-range (utcFields f) u.time u.year (omega (arith, u.second, v.second)) (omega (arith, u.precision, v.precision))
+pub utc_in_range : {f : Fields} {a : ℕ} → Valid f a → InRange (utc_fields f)
+utc_in_range {f} v =
+    let u = utc_is v in
+    fields_in_range (utc_fields f) u.time u.year (omega (arith, u.second, v.second)) (omega (arith, u.precision, v.precision))
     (omega (arith, u.digits, v.digits)) (omega (arith, u.offset))
 
 -- for the code
-pub ruleset utc_form = (check-refuses, check-gives, valid-time, valid-offset, utc-in-range)
+pub ruleset utc_form = (check_refuses, check_gives, valid_time, valid_offset, utc_in_range)

@@ -2,9 +2,9 @@
 // holds of those.
 ghost use Rattle.std.specs.Prelude.{◌≡◌, true, ◌&&◌, ◌||◌, ◌+◌, ◌%◌, ◌^◌, ◌<◌, eqb, leb, ltb};
 ghost use Rattle.std.specs.Int.Bits.{bit_and};
-ghost use Rattle.ion.specs.Pair.Word.{fieldsOf};
+ghost use Rattle.ion.specs.Pair.Word.{fields_of};
 ghost use Rattle.ion.specs.Pair.Fraction.{scale};
-ghost use Rattle.ion.specs.Calls.Check.{checkNumber};
+ghost use Rattle.ion.specs.Calls.Check.{check_number};
 ghost use Rattle.ion.specs.Calls.Accepted.{Valid};
 
 use ion::{Date, Fields, MAX_ATTOSECONDS, Timestamp};
@@ -55,9 +55,9 @@ fn none_beyond(w: u64, masks: u64, spares: u64, above: u64) -> bool
 // Whether each field but the month and the day is in its bounds; the fields of a mask are tested all at once.
 #[tactic(auto, using(crate::proofs::WordBounds::word_bounds))]
 fn in_bounds(w: u64) -> bool
-    ensures { result ≡ (leb 1 (fieldsOf w).year && leb (fieldsOf w).year 9999
-        && leb (fieldsOf w).hour 23 && leb (fieldsOf w).minute 59 && leb (fieldsOf w).second 59
-        && leb (fieldsOf w).precision 4 && leb (fieldsOf w).digits 18 && ltb (fieldsOf w).offset.0 2880) }
+    ensures { result ≡ (leb 1 (fields_of w).year && leb (fields_of w).year 9999
+        && leb (fields_of w).hour 23 && leb (fields_of w).minute 59 && leb (fields_of w).second 59
+        && leb (fields_of w).precision 4 && leb (fields_of w).digits 18 && ltb (fields_of w).offset.0 2880) }
 {
     (1 << YEAR_SHIFT <= w)
         & (w < 10_000 << YEAR_SHIFT)
@@ -102,7 +102,7 @@ fn is_multiple(attoseconds: u64, digits: u32) -> bool
 }
 
 fn is_valid(w: u64, attoseconds: u64) -> bool
-    ensures { (result ≡ true → Valid (fieldsOf w) attoseconds) × (Valid (fieldsOf w) attoseconds → result ≡ true) }
+    ensures { (result ≡ true → Valid (fields_of w) attoseconds) × (Valid (fields_of w) attoseconds → result ≡ true) }
 {
     if !in_bounds(w) {
         return false;
@@ -128,7 +128,7 @@ fn is_valid(w: u64, attoseconds: u64) -> bool
 // Whether the packed check answers 0.
 #[tactic(auto, using(crate::proofs::FieldTests::decided))]
 pub fn is_accepted(s: Timestamp) -> bool
-    ensures { result ≡ eqb (checkNumber s) 0 }
+    ensures { result ≡ eqb (check_number s) 0 }
 {
     let word = s.packed_fields;
     if word % RESERVED != 0 {

@@ -1,7 +1,7 @@
 // The check of a packed pair.
 ghost use Rattle.std.specs.Prelude.{◌≡◌};
-ghost use Rattle.ion.specs.Pair.Pair.{packedPair};
-ghost use Rattle.ion.specs.Calls.Check.{precisionOf, offsetAt, givenAt, fractionAt, rebuilt, sameAs, checkOf, checkNumber};
+ghost use Rattle.ion.specs.Pair.Pair.{packed_pair};
+ghost use Rattle.ion.specs.Calls.Check.{precision_of, offset_at, given_at, fraction_at, rebuilt, same_as, check_of, check_number};
 
 use crate::accepted::is_accepted;
 use builder::build_fields;
@@ -12,7 +12,7 @@ use ion::{
 
 // A precision by its number; 5 to 7 read as 4.
 fn precision_of(n: u32) -> TimestampPrecision
-    ensures { result ≡ precisionOf n }
+    ensures { result ≡ precision_of n }
 {
     match n {
         0 => TimestampPrecision::Year,
@@ -25,7 +25,7 @@ fn precision_of(n: u32) -> TimestampPrecision
 
 // The offset of a packed word, which only precision 3 and finer have.
 fn offset_at(precision: u32, raw: RawOffset) -> BuilderOffset
-    ensures { result ≡ offsetAt precision raw }
+    ensures { result ≡ offset_at precision raw }
 {
     if precision < 3 {
         return BuilderOffset::Unknown;
@@ -35,14 +35,14 @@ fn offset_at(precision: u32, raw: RawOffset) -> BuilderOffset
 
 // A field that a precision has, else its first value.
 fn given_at(from: u32, precision: u32, x: u32, first: u32) -> u32
-    ensures { result ≡ givenAt from precision x first }
+    ensures { result ≡ given_at from precision x first }
 {
     if from <= precision { x } else { first }
 }
 
 // The attoseconds of a packed pair, cut to its digits; 0 where there is no fraction.
 fn fraction_at(precision: u32, digits: u32, attoseconds: u64) -> u64
-    ensures { result ≡ fractionAt precision digits attoseconds }
+    ensures { result ≡ fraction_at precision digits attoseconds }
 {
     if precision < 4 {
         return 0;
@@ -77,7 +77,7 @@ fn rebuild(f: Fields, attoseconds: u64) -> BuilderFields
 
 // What was built, where it is the pair that came in.
 fn same_as(s: Timestamp, b: Built) -> Built
-    ensures { result ≡ sameAs s b }
+    ensures { result ≡ same_as s b }
 {
     let t = b.stamp;
     let number = b.number;
@@ -100,7 +100,7 @@ fn same_as(s: Timestamp, b: Built) -> Built
 // The check as it is defined, by building the pair again.
 #[tactic(auto, using(crate::proofs::CheckedFields::by_parts))]
 fn check_by_building(s: Timestamp) -> Built
-    ensures { result ≡ checkOf s }
+    ensures { result ≡ check_of s }
 {
     let f = packed::unpack(s.packed_fields);
     let digits = f.digits;
@@ -114,7 +114,7 @@ fn check_by_building(s: Timestamp) -> Built
 // again, for its number.
 #[tactic(auto, using(crate::proofs::Accepts::accepted_same))]
 pub fn check(s: Timestamp) -> Built
-    ensures { result ≡ checkOf s }
+    ensures { result ≡ check_of s }
 {
     if is_accepted(s) {
         return Built {
@@ -127,7 +127,7 @@ pub fn check(s: Timestamp) -> Built
 
 // The number alone.
 pub fn check_number(s: Timestamp) -> u32
-    ensures { result ≡ checkNumber s }
+    ensures { result ≡ check_number s }
 {
     let b = check(s);
     b.number
@@ -135,7 +135,7 @@ pub fn check_number(s: Timestamp) -> u32
 
 // The check of the two numbers of a pair.
 pub fn try_from_bits(packed_fields: u64, attoseconds: u64) -> Built
-    ensures { result ≡ checkOf (packedPair packed_fields attoseconds) }
+    ensures { result ≡ check_of (packed_pair packed_fields attoseconds) }
 {
     check(Timestamp {
         packed_fields: packed_fields,

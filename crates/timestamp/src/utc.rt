@@ -1,9 +1,9 @@
 // The UTC form.
 ghost use Rattle.std.specs.Prelude.{◌≡◌, ◌≤◌};
-ghost use Rattle.ion.specs.Pair.Offset.{WithinDay, offsetOf};
+ghost use Rattle.ion.specs.Pair.Offset.{WithinDay, offset_of};
 ghost use Rattle.ion.specs.Calendar.Shift.{IsDateTime, shifted};
-ghost use Rattle.ion.specs.Calls.Accepted.{timeIn};
-ghost use Rattle.ion.specs.Calls.Utc.{withTime, utcFields, utcOf};
+ghost use Rattle.ion.specs.Calls.Accepted.{time_in};
+ghost use Rattle.ion.specs.Calls.Utc.{with_time, utc_fields, utc_of};
 
 use crate::checking::check;
 use ion::offset::{Offset, OffsetMinutes, RawOffset};
@@ -13,8 +13,8 @@ use ion::{Built, DateTime, Fields, Timestamp, offset};
 
 // The fields with their date and time moved by minutes, and with another offset.
 pub fn shifted_fields(f: Fields, m: OffsetMinutes, raw: RawOffset) -> Fields
-    requires { IsDateTime (timeIn f) × (f.year ≤ 10000) × WithinDay (Offset.Known m) }
-    ensures { result ≡ withTime f (shifted (timeIn f) m.0) raw }
+    requires { IsDateTime (time_in f) × (f.year ≤ 10000) × WithinDay (Offset.Known m) }
+    ensures { result ≡ with_time f (shifted (time_in f) m.0) raw }
 {
     let given = DateTime {
         year: f.year,
@@ -38,10 +38,10 @@ pub fn shifted_fields(f: Fields, m: OffsetMinutes, raw: RawOffset) -> Fields
 }
 
 // The fields in UTC: the offset is subtracted and marked unknown. An unknown offset changes nothing.
-#[tactic(auto, unfolding(ion::specs::Calls::Utc::utcFields))]
+#[tactic(auto, unfolding(ion::specs::Calls::Utc::utc_fields))]
 pub fn utc_fields(f: Fields) -> Fields
-    requires { IsDateTime (timeIn f) × (f.year ≤ 9999) × WithinDay (offsetOf f.offset) }
-    ensures { result ≡ utcFields f }
+    requires { IsDateTime (time_in f) × (f.year ≤ 9999) × WithinDay (offset_of f.offset) }
+    ensures { result ≡ utc_fields f }
 {
     let raw = f.offset;
     let o = offset::offset_of(raw);
@@ -52,9 +52,9 @@ pub fn utc_fields(f: Fields) -> Fields
 }
 
 // The same moment with an unknown offset. Its year may be 0 or 10000, and then the packed check refuses it.
-#[tactic(auto, using(crate::proofs::UtcForm::utc_form), unfolding(ion::specs::Calls::Utc::utcOf))]
+#[tactic(auto, using(crate::proofs::UtcForm::utc_form), unfolding(ion::specs::Calls::Utc::utc_of))]
 pub fn to_utc(s: Timestamp) -> Built
-    ensures { result ≡ utcOf s }
+    ensures { result ≡ utc_of s }
 {
     let c = check(s);
     let n = c.number;

@@ -2,10 +2,10 @@
 // an array that is lent from call to call, and copied once.
 ghost use Rattle.std.specs.Prelude.{◌≡◌, ◌+◌, ◌/◌, ◌≤◌, length, take};
 ghost use Rattle.ion.specs.Pair.Fraction.{scale};
-ghost use Rattle.ion.specs.Calls.Output.{Run, Between, putAfter, wroteAfter};
-ghost use Rattle.ion.specs.Calls.Check.{checkNumber};
+ghost use Rattle.ion.specs.Calls.Output.{Run, Between, put_after, wrote_after};
+ghost use Rattle.ion.specs.Calls.Check.{check_number};
 ghost use Rattle.ion.specs.Calls.Accepted.{Accepted};
-ghost use Rattle.ion.specs.Value.Encode.{offsetBytes, varuints, fieldCount, fractionBytes, bodyOf, valueOf};
+ghost use Rattle.ion.specs.Value.Encode.{offset_bytes, varuints, field_count, fraction_bytes, body_of, value_of};
 
 use binary::var_int::Parts;
 use binary::var_uint::END_FLAG;
@@ -36,10 +36,10 @@ pub struct Span {
 }
 
 // An unknown offset is negative zero.
-#[tactic(auto, using(crate::proofs::Lengths::size), unfolding(ion::specs::Value::Encode::offsetBytes, ion::specs::Numbers::VarInt::varint))]
+#[tactic(auto, using(crate::proofs::Lengths::size), unfolding(ion::specs::Value::Encode::offset_bytes, ion::specs::Numbers::VarInt::varint))]
 fn put_offset(buf: &mut [u8], at: usize, o: Offset) -> usize
-    requires { at + length (offsetBytes o) ≤ length buf.old }
-    ensures { Run buf.old at (offsetBytes o) buf.new result }
+    requires { at + length (offset_bytes o) ≤ length buf.old }
+    ensures { Run buf.old at (offset_bytes o) buf.new result }
 {
     match o {
         Offset::Unknown => {
@@ -54,10 +54,10 @@ fn put_offset(buf: &mut [u8], at: usize, o: Offset) -> usize
 }
 
 // How many fields there are at a precision.
-#[tactic(auto, unfolding(ion::specs::Value::Encode::fieldCount))]
+#[tactic(auto, unfolding(ion::specs::Value::Encode::field_count))]
 fn field_count(precision: u32) -> usize
     requires { precision ≤ 4 }
-    ensures { result ≡ fieldCount precision }
+    ensures { result ≡ field_count precision }
 {
     if 3 <= precision {
         return precision as usize + 2;
@@ -82,8 +82,8 @@ fn put_fields(buf: &mut [u8], at: usize, fields: [u32; 6], count: usize) -> usiz
 // The exponent and the coefficient of a fraction. One without digits has no bytes, and is not divided.
 #[tactic(auto, using(crate::proofs::BodyRuns::fractions))]
 fn put_fraction(buf: &mut [u8], at: usize, digits: u32, attoseconds: u64) -> usize
-    requires { at + length (fractionBytes digits (attoseconds / scale digits)) ≤ length buf.old }
-    ensures { Run buf.old at (fractionBytes digits (attoseconds / scale digits)) buf.new result }
+    requires { at + length (fraction_bytes digits (attoseconds / scale digits)) ≤ length buf.old }
+    ensures { Run buf.old at (fraction_bytes digits (attoseconds / scale digits)) buf.new result }
 {
     if digits == 0 {
         return at;
@@ -94,8 +94,8 @@ fn put_fraction(buf: &mut [u8], at: usize, digits: u32, attoseconds: u64) -> usi
 
 // The body of an accepted timestamp, where there is room for it.
 fn put_body(buf: &mut [u8], at: usize, s: Timestamp) -> usize
-    requires { Accepted s × (at + length (bodyOf s) ≤ length buf.old) }
-    ensures { Run buf.old at (bodyOf s) buf.new result }
+    requires { Accepted s × (at + length (body_of s) ≤ length buf.old) }
+    ensures { Run buf.old at (body_of s) buf.new result }
 {
     let local = packed::unpack(s.packed_fields);
     let utc = timestamp::utc_fields(local);
@@ -110,10 +110,10 @@ fn put_body(buf: &mut [u8], at: usize, s: Timestamp) -> usize
 }
 
 // Writes the body of a timestamp's value from index `at` on.
-#[tactic(auto, using(crate::proofs::Lengths::body), unfolding(ion::specs::Calls::Output::putAfter, ion::specs::Calls::Output::wroteAfter))]
+#[tactic(auto, using(crate::proofs::Lengths::body), unfolding(ion::specs::Calls::Output::put_after, ion::specs::Calls::Output::wrote_after))]
 pub fn encode_timestamp(buf: &mut [u8], at: usize, s: Timestamp) -> Written
-    ensures value { result ≡ wroteAfter (checkNumber s) buf.old at (bodyOf s) }
-    ensures buffer { buf.new ≡ putAfter (checkNumber s) buf.old at (bodyOf s) }
+    ensures value { result ≡ wrote_after (check_number s) buf.old at (body_of s) }
+    ensures buffer { buf.new ≡ put_after (check_number s) buf.old at (body_of s) }
 {
     let number = timestamp::check_number(s);
     if number != 0 {
@@ -131,7 +131,7 @@ pub fn encode_timestamp(buf: &mut [u8], at: usize, s: Timestamp) -> Written
 #[tactic(auto, using(crate::proofs::Lengths::body))]
 pub fn gather_value(bytes: &mut [u8], s: Timestamp) -> Span
     requires { Accepted s × (20 ≤ length bytes.old) }
-    ensures { Between bytes.new result.start result.end (valueOf s) }
+    ensures { Between bytes.new result.start result.end (value_of s) }
 {
     let end = put_body(bytes, 2, s);
     let length = end - 2;
@@ -145,10 +145,10 @@ pub fn gather_value(bytes: &mut [u8], s: Timestamp) -> Span
 }
 
 // Writes the value of a timestamp from index `at` on.
-#[tactic(auto, unfolding(ion::specs::Calls::Output::putAfter, ion::specs::Calls::Output::wroteAfter))]
+#[tactic(auto, unfolding(ion::specs::Calls::Output::put_after, ion::specs::Calls::Output::wrote_after))]
 pub fn encode_timestamp_value(buf: &mut [u8], at: usize, s: Timestamp) -> Written
-    ensures value { result ≡ wroteAfter (checkNumber s) buf.old at (valueOf s) }
-    ensures buffer { buf.new ≡ putAfter (checkNumber s) buf.old at (valueOf s) }
+    ensures value { result ≡ wrote_after (check_number s) buf.old at (value_of s) }
+    ensures buffer { buf.new ≡ put_after (check_number s) buf.old at (value_of s) }
 {
     let check = timestamp::check_number(s);
     if check != 0 {

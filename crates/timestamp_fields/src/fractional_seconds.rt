@@ -1,13 +1,13 @@
 // The fraction of a timestamp's second: in attoseconds, in larger units, and as a decimal.
 ghost use Rattle.std.specs.Prelude.{◌≡◌, ◌-◌, ◌≤◌};
-ghost use Rattle.ion.specs.Calls.Reads.{attosecondsFieldOf, unitsOf, nanosecondsOf, microsecondsOf, millisecondsOf, decimalFieldOf};
+ghost use Rattle.ion.specs.Calls.Reads.{attoseconds_field_of, units_of, nanoseconds_of, microseconds_of, milliseconds_of, decimal_field_of};
 
 use ion::{Attoseconds, Decimal, DecimalField, Field, Timestamp};
 use timestamp::check_number;
 
-#[tactic(auto, unfolding(ion::specs::Calls::Reads::attosecondsFieldOf))]
+#[tactic(auto, unfolding(ion::specs::Calls::Reads::attoseconds_field_of))]
 pub fn attoseconds(s: Timestamp) -> Attoseconds
-    ensures { result ≡ attosecondsFieldOf s }
+    ensures { result ≡ attoseconds_field_of s }
 {
     let n = check_number(s);
     if n != 0 {
@@ -23,10 +23,10 @@ pub fn attoseconds(s: Timestamp) -> Attoseconds
 }
 
 // Whole units of the last of a number of digits; beside the number of a refusal there are 0 attoseconds, and so 0 units.
-#[tactic(auto, using(crate::proofs::Cuts::fit), unfolding(ion::specs::Calls::Reads::fieldOf, ion::specs::Calls::Reads::attosecondsFieldOf))]
+#[tactic(auto, using(crate::proofs::Cuts::fit), unfolding(ion::specs::Calls::Reads::field_of, ion::specs::Calls::Reads::attoseconds_field_of))]
 fn units(s: Timestamp, digits: u64) -> Field
     requires { digits ≤ 9 }
-    ensures { result ≡ unitsOf (18 - digits) s }
+    ensures { result ≡ units_of (18 - digits) s }
 {
     let whole = attoseconds(s);
     let unit = fraction::scale(digits);
@@ -37,27 +37,27 @@ fn units(s: Timestamp, digits: u64) -> Field
 }
 
 pub fn nanoseconds(s: Timestamp) -> Field
-    ensures { result ≡ nanosecondsOf s }
+    ensures { result ≡ nanoseconds_of s }
 {
     units(s, 9)
 }
 
 pub fn microseconds(s: Timestamp) -> Field
-    ensures { result ≡ microsecondsOf s }
+    ensures { result ≡ microseconds_of s }
 {
     units(s, 6)
 }
 
 pub fn milliseconds(s: Timestamp) -> Field
-    ensures { result ≡ millisecondsOf s }
+    ensures { result ≡ milliseconds_of s }
 {
     units(s, 3)
 }
 
 // The fraction's digits as the coefficient, and minus their number as the exponent.
-#[tactic(auto, using(crate::proofs::Cuts::fit), unfolding(ion::specs::Calls::Reads::decimalFieldOf, ion::specs::Pair::Word::fieldsOf))]
+#[tactic(auto, using(crate::proofs::Cuts::fit), unfolding(ion::specs::Calls::Reads::decimal_field_of, ion::specs::Pair::Word::fields_of))]
 pub fn fractional_seconds_as_decimal(s: Timestamp) -> DecimalField
-    ensures { result ≡ decimalFieldOf s }
+    ensures { result ≡ decimal_field_of s }
 {
     let n = check_number(s);
     if n != 0 {

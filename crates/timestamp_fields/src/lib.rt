@@ -1,11 +1,12 @@
 // What a timestamp holds, after its check: the fields of the packed word and the offset; the fraction is a module of its own.
-#![tactic(auto, unfolding(ion::specs::Pair::Word::fieldsOf))]
+#![tactic(auto, unfolding(ion::specs::Pair::Word::fields_of))]
 
 mod fractional_seconds;
 
 ghost use Rattle.std.specs.Prelude.{◌≡◌};
-ghost use Rattle.ion.specs.Calls.Reads.{fieldOf, yearOf, monthOf, dayOf, hourOf, minuteOf, secondOf, precisionFieldOf, digitsFieldOf};
-ghost use Rattle.ion.specs.Calls.Reads.{offsetFieldOf};
+ghost use Rattle.ion.specs.Calls.Reads.{field_of, year_of, month_of, day_of, hour_of};
+ghost use Rattle.ion.specs.Calls.Reads.{minute_of, second_of, precision_field_of, digits_field_of};
+ghost use Rattle.ion.specs.Calls.Reads.{offset_field_of};
 
 pub use fractional_seconds::{
     attoseconds, fractional_seconds_as_decimal, microseconds, milliseconds, nanoseconds,
@@ -15,9 +16,9 @@ use ion::{Field, OffsetField, Timestamp};
 use timestamp::check_number;
 
 // A value of the timestamp, or 0 beside the number of a refusal.
-#[tactic(auto, unfolding(ion::specs::Calls::Reads::fieldOf))]
+#[tactic(auto, unfolding(ion::specs::Calls::Reads::field_of))]
 fn field(s: Timestamp, value: u32) -> Field
-    ensures { result ≡ fieldOf value s }
+    ensures { result ≡ field_of value s }
 {
     let number = check_number(s);
     if number != 0 {
@@ -35,51 +36,51 @@ fn field(s: Timestamp, value: u32) -> Field
 // ---- the fields of the packed word; date and time are local
 
 pub fn year(s: Timestamp) -> Field
-    ensures { result ≡ yearOf s }
+    ensures { result ≡ year_of s }
 {
     field(s, packed::year(s.packed_fields))
 }
 
 pub fn month(s: Timestamp) -> Field
-    ensures { result ≡ monthOf s }
+    ensures { result ≡ month_of s }
 {
     field(s, packed::month(s.packed_fields))
 }
 
 pub fn day(s: Timestamp) -> Field
-    ensures { result ≡ dayOf s }
+    ensures { result ≡ day_of s }
 {
     field(s, packed::day(s.packed_fields))
 }
 
 pub fn hour(s: Timestamp) -> Field
-    ensures { result ≡ hourOf s }
+    ensures { result ≡ hour_of s }
 {
     field(s, packed::hour(s.packed_fields))
 }
 
 pub fn minute(s: Timestamp) -> Field
-    ensures { result ≡ minuteOf s }
+    ensures { result ≡ minute_of s }
 {
     field(s, packed::minute(s.packed_fields))
 }
 
 pub fn second(s: Timestamp) -> Field
-    ensures { result ≡ secondOf s }
+    ensures { result ≡ second_of s }
 {
     field(s, packed::second(s.packed_fields))
 }
 
 // 0 year, 1 month, 2 day, 3 hour and minute, 4 second.
 pub fn precision(s: Timestamp) -> Field
-    ensures { result ≡ precisionFieldOf s }
+    ensures { result ≡ precision_field_of s }
 {
     field(s, packed::precision(s.packed_fields))
 }
 
 // How many digits the fraction has.
 pub fn fractional_seconds_scale(s: Timestamp) -> Field
-    ensures { result ≡ digitsFieldOf s }
+    ensures { result ≡ digits_field_of s }
 {
     field(s, packed::digits(s.packed_fields))
 }
@@ -87,9 +88,9 @@ pub fn fractional_seconds_scale(s: Timestamp) -> Field
 // ---- the offset from UTC
 
 // Unknown beside the number of a refusal.
-#[tactic(auto, unfolding(ion::specs::Calls::Reads::offsetFieldOf, ion::specs::Pair::Word::fieldsOf))]
+#[tactic(auto, unfolding(ion::specs::Calls::Reads::offset_field_of, ion::specs::Pair::Word::fields_of))]
 pub fn offset(s: Timestamp) -> OffsetField
-    ensures { result ≡ offsetFieldOf s }
+    ensures { result ≡ offset_field_of s }
 {
     let n = check_number(s);
     if n != 0 {

@@ -6,17 +6,17 @@ mod parts;
 
 ghost use Rattle.std.specs.Prelude.{◌≡◌, ◌+◌, ◌≤◌, length};
 ghost use Rattle.ion.specs.Calls.Accepted.{Valid};
-ghost use Rattle.ion.specs.Calls.Check.{checkNumber};
-ghost use Rattle.ion.specs.Calls.Output.{Run, putAfter, wroteAfter};
-ghost use Rattle.ion.specs.Text.Format.{fieldsText, textOf};
-ghost use Rattle.timestamp_text.specs.TextParts.{textLength};
+ghost use Rattle.ion.specs.Calls.Check.{check_number};
+ghost use Rattle.ion.specs.Calls.Output.{Run, put_after, wrote_after};
+ghost use Rattle.ion.specs.Text.Format.{fields_text, text_of};
+ghost use Rattle.timestamp_text.specs.TextParts.{text_length};
 
 use ion::{Fields, Timestamp, Written};
 use text::text_formatter;
 
 // How long the text is at a precision, with a number of digits.
 fn text_length(precision: u32, digits: u32) -> usize
-    ensures { result ≡ textLength precision digits }
+    ensures { result ≡ text_length precision digits }
 {
     if precision == 0 {
         return 5;
@@ -39,8 +39,8 @@ fn text_length(precision: u32, digits: u32) -> usize
 // Writes the text of fields from index `at` on, where there is room for it; the index after it.
 #[tactic(auto, using(crate::proofs::Lengths::texts))]
 pub fn text_into(buf: &mut [u8], at: usize, f: Fields, attoseconds: u64) -> usize
-    requires { (at + length (fieldsText f attoseconds) ≤ length buf.old) × Valid f attoseconds }
-    ensures { Run buf.old at (fieldsText f attoseconds) buf.new result }
+    requires { (at + length (fields_text f attoseconds) ≤ length buf.old) × Valid f attoseconds }
+    ensures { Run buf.old at (fields_text f attoseconds) buf.new result }
 {
     let precision = f.precision;
     let raw = f.offset;
@@ -66,8 +66,8 @@ pub fn text_into(buf: &mut [u8], at: usize, f: Fields, attoseconds: u64) -> usiz
 
 // Writes the text of a timestamp from index `at` on.
 pub fn format(buf: &mut [u8], at: usize, s: Timestamp) -> Written
-    ensures value { result ≡ wroteAfter (checkNumber s) buf.old at (textOf s) }
-    ensures buffer { buf.new ≡ putAfter (checkNumber s) buf.old at (textOf s) }
+    ensures value { result ≡ wrote_after (check_number s) buf.old at (text_of s) }
+    ensures buffer { buf.new ≡ put_after (check_number s) buf.old at (text_of s) }
 {
     let number = timestamp::check_number(s);
     if number != 0 {

@@ -3,8 +3,8 @@ ghost use Rattle.std.specs.Prelude.{[], ◌∷◌, ◌+◌, ◌^◌, ◌≤◌, 
 ghost use Rattle.ion.specs.Calls.Accepted.{Valid};
 ghost use Rattle.ion.specs.Calls.Output.{Run};
 ghost use Rattle.ion.specs.Pair.Word.{InRange};
-ghost use Rattle.ion.specs.Text.Format.{marked, fractionText};
-ghost use Rattle.timestamp_text.specs.TextParts.{fractionLength, toMonth, toDay, toMinute, toFraction};
+ghost use Rattle.ion.specs.Text.Format.{marked, fraction_text};
+ghost use Rattle.timestamp_text.specs.TextParts.{fraction_length, to_month, to_day, to_minute, to_fraction};
 
 use ion::Fields;
 use text::text_formatter;
@@ -26,10 +26,10 @@ pub(crate) fn put_marked(buf: &mut [u8], at: usize, mark: u8, value: u32) -> usi
 }
 
 // A point and the digits of a fraction, or nothing.
-#[tactic(auto, using(crate::proofs::Lengths::fractions), unfolding(ion::specs::Text::Format::fractionText))]
+#[tactic(auto, using(crate::proofs::Lengths::fractions), unfolding(ion::specs::Text::Format::fraction_text))]
 fn format_fractional_seconds(buf: &mut [u8], at: usize, digits: u32, attoseconds: u64) -> usize
-    requires { (at + fractionLength digits ≤ length buf.old) × (digits ≤ 18) × (attoseconds < 10 ^ 18) }
-    ensures { Run buf.old at (fractionText digits attoseconds) buf.new result }
+    requires { (at + fraction_length digits ≤ length buf.old) × (digits ≤ 18) × (attoseconds < 10 ^ 18) }
+    ensures { Run buf.old at (fraction_text digits attoseconds) buf.new result }
 {
     if digits == 0 {
         return at;
@@ -49,8 +49,8 @@ fn format_fractional_seconds(buf: &mut [u8], at: usize, digits: u32, attoseconds
 
 #[tactic(auto, using(crate::proofs::Lengths::lengths))]
 pub(crate) fn format_year_and_month(buf: &mut [u8], at: usize, f: Fields) -> usize
-    requires { (at + length (toMonth f) ≤ length buf.old) × (f.year ≤ 9999) × InRange f }
-    ensures { Run buf.old at (toMonth f) buf.new result }
+    requires { (at + length (to_month f) ≤ length buf.old) × (f.year ≤ 9999) × InRange f }
+    ensures { Run buf.old at (to_month f) buf.new result }
 {
     let next = text_formatter::put_four(buf, at, f.year);
     put_marked(buf, next, b'-', f.month)
@@ -58,8 +58,8 @@ pub(crate) fn format_year_and_month(buf: &mut [u8], at: usize, f: Fields) -> usi
 
 #[tactic(auto, using(crate::proofs::Lengths::lengths))]
 pub(crate) fn format_date(buf: &mut [u8], at: usize, f: Fields) -> usize
-    requires { (at + length (toDay f) ≤ length buf.old) × (f.year ≤ 9999) × InRange f }
-    ensures { Run buf.old at (toDay f) buf.new result }
+    requires { (at + length (to_day f) ≤ length buf.old) × (f.year ≤ 9999) × InRange f }
+    ensures { Run buf.old at (to_day f) buf.new result }
 {
     let next = format_year_and_month(buf, at, f);
     put_marked(buf, next, b'-', f.day)
@@ -67,8 +67,8 @@ pub(crate) fn format_date(buf: &mut [u8], at: usize, f: Fields) -> usize
 
 #[tactic(auto, using(crate::proofs::Lengths::lengths))]
 pub(crate) fn format_date_hour_and_minute(buf: &mut [u8], at: usize, f: Fields) -> usize
-    requires { (at + length (toMinute f) ≤ length buf.old) × (f.year ≤ 9999) × InRange f }
-    ensures { Run buf.old at (toMinute f) buf.new result }
+    requires { (at + length (to_minute f) ≤ length buf.old) × (f.year ≤ 9999) × InRange f }
+    ensures { Run buf.old at (to_minute f) buf.new result }
 {
     let next = format_date(buf, at, f);
     let minute = put_marked(buf, next, b'T', f.hour);
@@ -77,8 +77,8 @@ pub(crate) fn format_date_hour_and_minute(buf: &mut [u8], at: usize, f: Fields) 
 
 #[tactic(auto, using(crate::proofs::Lengths::seconds))]
 pub(crate) fn format_to_fraction(buf: &mut [u8], at: usize, f: Fields, attoseconds: u64) -> usize
-    requires { (at + length (toFraction f attoseconds) ≤ length buf.old) × Valid f attoseconds }
-    ensures { Run buf.old at (toFraction f attoseconds) buf.new result }
+    requires { (at + length (to_fraction f attoseconds) ≤ length buf.old) × Valid f attoseconds }
+    ensures { Run buf.old at (to_fraction f attoseconds) buf.new result }
 {
     let minute = format_date_hour_and_minute(buf, at, f);
     let second = put_marked(buf, minute, b':', f.second);

@@ -4,40 +4,40 @@ use mathlib.Core.Bool.{false}
 use Prim.Native.Nat.{ℕ, ◌*◌, ◌/◌, ◌^◌, ◌≤◌, ◌<◌, min}
 use native.Mathlib.Nat.{mul-mod_left, mul-div_cancel}
 use native.Mathlib.Omega.{arith}
-use Rattle.ion.specs.Pair.Offset.{WithinDay, rawOffset, offsetOf}
+use Rattle.ion.specs.Pair.Offset.{WithinDay, raw_offset, offset_of}
 use Rattle.ion.specs.Calendar.Shift.{IsDateTime}
 use Rattle.ion.specs.Pair.Word.{InRange}
 use Rattle.ion.specs.Pair.Fraction.{scale}
-use Rattle.ion.specs.Calls.Accepted.{Valid, timeIn}
-use Rattle.ion.specs.Calls.Utc.{withTime, utcBy, utcFields}
-use Rattle.ion.specs.Value.Decode.{localBy}
+use Rattle.ion.specs.Calls.Accepted.{Valid, time_in}
+use Rattle.ion.specs.Calls.Utc.{with_time, utc_by, utc_fields}
+use Rattle.ion.specs.Value.Decode.{local_by}
 use Rattle.ion.specs.declared.Fields.{Fields}
 use Rattle.ion.specs.declared.Body.{Body}
 use Rattle.ion.specs.declared.offset.Offset.{Offset}
 use Rattle.ion.specs.declared.offset.Offset.TheVariants.{Unknown, Known}
-use Rattle.ion.proofs.Offsets.{raw-and-back, raw-lt}
-use Rattle.calendar.proofs.Shifts.{shifted-is, shift-back}
-use Rattle.calendar.proofs.FirstDay.{moved-room}
-use Rattle.fraction.proofs.Capped.{scaled-low}
-use Rattle.fraction.proofs.Scales.{scale-pos}
-use Rattle.timestamp.proofs.Valid.{valid-in-range}
-use Rattle.value_reader.specs.BodyParts.{bodyFor, Encodable, UtcInBounds, Acceptable}
-use Rattle.value_reader.proofs.ReadSteps.{outside, outside-false}
+use Rattle.ion.proofs.Offsets.{raw_and_back, raw_lt}
+use Rattle.calendar.proofs.Shifts.{shifted_is, shift_back}
+use Rattle.calendar.proofs.FirstDay.{moved_room}
+use Rattle.fraction.proofs.Capped.{scaled_low}
+use Rattle.fraction.proofs.Scales.{scale_pos}
+use Rattle.timestamp.proofs.Valid.{valid_in_range}
+use Rattle.value_reader.specs.BodyParts.{body_for, Encodable, UtcInBounds, Acceptable}
+use Rattle.value_reader.proofs.ReadSteps.{outside, outside_false}
 
 -- ---- local fields f of an offset o and UTC fields u
 
 record IsLocal (o : Offset) (u f : Fields) : Type 0 where
-  time : IsDateTime (timeIn f)
+  time : IsDateTime (time_in f)
   second : f.second ≡ u.second
   precision : f.precision ≡ u.precision
   digits : f.digits ≡ u.digits
   raw : f.offset.0 < 2880
-  offset : offsetOf f.offset ≡ o
-  utc : utcBy o f ≡ u
+  offset : offset_of f.offset ≡ o
+  utc : utc_by o f ≡ u
 
-local-is : (o : Offset) (u : Fields) → WithinDay o → IsDateTime (timeIn u) → u.offset ≡ rawOffset 0 → 1 ≤ (localBy o u).year
-    → IsLocal o u (localBy o u)
-local-is Unknown u w t e y =
+local_is : (o : Offset) (u : Fields) → WithinDay o → IsDateTime (time_in u) → u.offset ≡ raw_offset 0 → 1 ≤ (local_by o u).year
+    → IsLocal o u (local_by o u)
+local_is Unknown u w t e y =
     record {
       time = t;
       second = refl;
@@ -45,47 +45,47 @@ local-is Unknown u w t e y =
       digits = refl;
       raw = omega arith;
       offset = refl;
-      utc = ap (withTime u (timeIn u)) (sym e);
+      utc = ap (with_time u (time_in u)) (sym e);
     }
-local-is (Known m) u w t e y =
-    let room = moved-room (timeIn u) m.0 t w y in
+local_is (Known m) u w t e y =
+    let room = moved_room (time_in u) m.0 t w y in
     record {
-      time = shifted-is (timeIn u) m.0 t;
+      time = shifted_is (time_in u) m.0 t;
       second = refl;
       precision = refl;
       digits = refl;
-      raw = raw-lt (Known m) w;
-      offset = raw-and-back (Known m) w;
-      utc = ap₂ (withTime u) (shift-back (timeIn u) m.0 t room) (sym e);
+      raw = raw_lt (Known m) w;
+      offset = raw_and_back (Known m) w;
+      utc = ap₂ (with_time u) (shift_back (time_in u) m.0 t room) (sym e);
     }
 
 -- ---- those of acceptable parts
 
 -- the attoseconds of the parts
-abbrev pub attosecondsFrom : Body → ℕ
-attosecondsFrom x = x.coefficient * scale x.utc.digits
+abbrev pub attoseconds_from : Body → ℕ
+attoseconds_from x = x.coefficient * scale x.utc.digits
 
 module _ (x : Body) (p : Encodable x) (q : Acceptable x) where
-  local : IsLocal x.offset x.utc (localBy x.offset x.utc)
-  local = local-is x.offset x.utc p.within-day q.bounds.time p.no-raw q.from-year
+  local : IsLocal x.offset x.utc (local_by x.offset x.utc)
+  local = local_is x.offset x.utc p.within_day q.bounds.time p.no_raw q.from_year
 
-  attoseconds-low : attosecondsFrom x < 10 ^ 18
-  attoseconds-low =
+  attoseconds_low : attoseconds_from x < 10 ^ 18
+  attoseconds_low =
       let b = q.bounds in
       let e : min x.utc.digits 18 ≡ x.utc.digits = omega (arith, b.digits) in
-      scaled-low x.coefficient x.utc.digits (rw e b.coefficient)
+      scaled_low x.coefficient x.utc.digits (rw e b.coefficient)
 
   -- without an hour there is no known offset, and the local fields are the UTC ones
-  coarse : (localBy x.offset x.utc).precision < 3 → localBy x.offset x.utc ≡ localBy Unknown x.utc
-  coarse h = ap (λ (o : Offset). localBy o x.utc) (q.bounds.known-late (omega (arith, local.precision)))
+  coarse : (local_by x.offset x.utc).precision < 3 → local_by x.offset x.utc ≡ local_by Unknown x.utc
+  coarse h = ap (λ (o : Offset). local_by o x.utc) (q.bounds.known_late (omega (arith, local.precision)))
 
-  pub local-valid : Valid (localBy x.offset x.utc) (attosecondsFrom x)
-  local-valid =
+  pub local_valid : Valid (local_by x.offset x.utc) (attoseconds_from x)
+  local_valid =
       let l = local in
       let b = q.bounds in
       record {
-        from-year = q.from-year;
-        to-year = q.to-year;
+        from_year = q.from_year;
+        to_year = q.to_year;
         date = l.time.date;
         hour = omega (arith, l.time.hours);
         minute = omega (arith, l.time.minutes);
@@ -93,47 +93,47 @@ module _ (x : Body) (p : Encodable x) (q : Acceptable x) where
         precision = omega (arith, l.precision, p.precise);
         digits = omega (arith, l.digits, b.digits);
         offset = l.raw;
-        attoseconds = attoseconds-low;
+        attoseconds = attoseconds_low;
         multiple = rw l.digits (mul-mod_left x.coefficient (scale x.utc.digits));
-        no-month = λ h. ap (λ (f : Fields). f.month) (coarse (omega arith)) ∙ p.no-month (omega (arith, l.precision));
-        no-day = λ h. ap (λ (f : Fields). f.day) (coarse (omega arith)) ∙ p.no-day (omega (arith, l.precision));
-        no-hour = λ h. ap (λ (f : Fields). f.hour) (coarse h) ∙ p.no-hour (omega (arith, l.precision));
-        no-minute = λ h. ap (λ (f : Fields). f.minute) (coarse h) ∙ p.no-minute (omega (arith, l.precision));
-        no-offset = λ h. ap (λ (f : Fields). f.offset.0) (coarse h);
-        no-second = λ h. l.second ∙ p.no-second (omega (arith, l.precision));
-        no-digits = λ h. l.digits ∙ p.no-digits (omega (arith, l.precision));
+        no_month = λ h. ap (λ (f : Fields). f.month) (coarse (omega arith)) ∙ p.no_month (omega (arith, l.precision));
+        no_day_lem = λ h. ap (λ (f : Fields). f.day) (coarse (omega arith)) ∙ p.no_day_lem (omega (arith, l.precision));
+        no_hour = λ h. ap (λ (f : Fields). f.hour) (coarse h) ∙ p.no_hour (omega (arith, l.precision));
+        no_minute = λ h. ap (λ (f : Fields). f.minute) (coarse h) ∙ p.no_minute (omega (arith, l.precision));
+        no_offset = λ h. ap (λ (f : Fields). f.offset.0) (coarse h);
+        no_second = λ h. l.second ∙ p.no_second (omega (arith, l.precision));
+        no_digits = λ h. l.digits ∙ p.no_digits (omega (arith, l.precision));
       }
 
   -- their body has these parts
-  pub body-again : bodyFor (localBy x.offset x.utc) (attosecondsFrom x) ≡ x
-  unfolding utcFields
-  body-again =
+  pub body_again : body_for (local_by x.offset x.utc) (attoseconds_from x) ≡ x
+  unfolding utc_fields
+  body_again =
       let l = local in
-      let f = localBy x.offset x.utc in
-      let cancel = mul-div_cancel x.coefficient (scale-pos x.utc.digits) in
-      let c : attosecondsFrom x / scale f.digits ≡ x.coefficient = rw l.digits cancel in
-      let u : utcBy (offsetOf f.offset) f ≡ x.utc = rw l.offset l.utc in
+      let f = local_by x.offset x.utc in
+      let cancel = mul-div_cancel x.coefficient (scale_pos x.utc.digits) in
+      let c : attoseconds_from x / scale f.digits ≡ x.coefficient = rw l.digits cancel in
+      let u : utc_by (offset_of f.offset) f ≡ x.utc = rw l.offset l.utc in
       λ i. record { offset = l.offset i; utc = u i; coefficient = c i }
 
 -- ---- as the code has them: the local fields f of parts whose UTC fields and local year passed their tests
 
-module _ (x : Body) (p : Encodable x) (b : UtcInBounds x) {f : Fields} (e : f ≡ localBy x.offset x.utc)
+module _ (x : Body) (p : Encodable x) (b : UtcInBounds x) {f : Fields} (e : f ≡ local_by x.offset x.utc)
     (y : outside 1 9999 f.year ≡ false) where
-  pub parts-acceptable : Acceptable x
-  parts-acceptable =
-      let h = outside-false 1 9999 f.year y in
+  pub parts_acceptable : Acceptable x
+  parts_acceptable =
+      let h = outside_false 1 9999 f.year y in
       let k = ap (λ (g : Fields). g.year) e in
-      record { bounds = b; from-year = omega (arith, h, k); to-year = omega (arith, h, k) }
+      record { bounds = b; from_year = omega (arith, h, k); to_year = omega (arith, h, k) }
 
-  parts-valid : Valid f (attosecondsFrom x)
-  parts-valid = rw e (local-valid x p parts-acceptable)
+  parts_valid : Valid f (attoseconds_from x)
+  parts_valid = rw e (local_valid x p parts_acceptable)
 
-  pub parts-in-range : InRange f
-  parts-in-range = valid-in-range parts-valid
+  pub parts_in_range : InRange f
+  parts_in_range = valid_in_range parts_valid
 
-  pub parts-attoseconds : attosecondsFrom x < 10 ^ 18
-  parts-attoseconds = omega (arith, parts-valid.attoseconds)
+  pub parts_attoseconds : attoseconds_from x < 10 ^ 18
+  parts_attoseconds = omega (arith, parts_valid.attoseconds)
 
 -- ---- a list of laws, for the code
 
-pub ruleset local_fields = (parts-acceptable, parts-in-range, parts-attoseconds)
+pub ruleset local_fields = (parts_acceptable, parts_in_range, parts_attoseconds)

@@ -10,75 +10,75 @@ use lib.Dec.{eqb, lit<}
 use lib.ListN.{length, take, drop, get_or, length-drop}
 use mir.Syntax.{w8}
 use mir.Val.{Fits}
-use Rattle.places.proofs.Below.{Below, below-take, below-drop}
-use Rattle.ion.specs.Calls.Refusal.{inputEnds, bodyRefused}
-use Rattle.ion.specs.Pair.Pair.{wordIn}
-use Rattle.ion.specs.Pair.Word.{fieldsOf}
-use Rattle.ion.specs.Calls.Check.{checkNumber}
+use Rattle.places.proofs.Below.{Below, below_take, below_drop}
+use Rattle.ion.specs.Calls.Refusal.{input_ends, body_refused}
+use Rattle.ion.specs.Pair.Pair.{word_in}
+use Rattle.ion.specs.Pair.Word.{fields_of}
+use Rattle.ion.specs.Calls.Check.{check_number}
 use Rattle.ion.specs.Calls.Accepted.{Valid, Accepted}
-use Rattle.ion.specs.Value.Encode.{bodyFrom, bodyOf}
-use Rattle.ion.specs.Value.Decode.{found, nothing, decodeBody, pairFrom, localBy}
-use Rattle.ion.specs.Value.ReadValue.{refusedReading, acceptedReading, same, isBodyOf, takenAs, readBody, readAfter}
+use Rattle.ion.specs.Value.Encode.{body_from, body_of}
+use Rattle.ion.specs.Value.Decode.{found, nothing, decode_body, pair_from, local_by}
+use Rattle.ion.specs.Value.ReadValue.{refused_reading, accepted_reading, same, is_body_of, taken_as, read_body, read_after}
 use Rattle.ion.specs.declared.Fields.{Fields}
 use Rattle.ion.specs.declared.Body.{Body}
 use Rattle.ion.specs.declared.Read.{Read}
-use Rattle.ion.proofs.Same.{same-is}
-use Rattle.packed.proofs.Words.{unpack-pack}
-use Rattle.timestamp.proofs.Valid.{valid-in-range, valid-accepted}
-use Rattle.timestamp.proofs.Accepts.{check-gives}
-use Rattle.value_reader.specs.BodyParts.{bodyFor, Encodable, Acceptable, PartsRead}
-use Rattle.value_reader.proofs.DecodeIs.{body-is}
-use Rattle.value_reader.proofs.ReadSteps.{after-short, after-whole}
+use Rattle.ion.proofs.Same.{same_is}
+use Rattle.packed.proofs.Words.{unpack_pack}
+use Rattle.timestamp.proofs.Valid.{valid_in_range, valid_accepted}
+use Rattle.timestamp.proofs.Accepts.{check_gives}
+use Rattle.value_reader.specs.BodyParts.{body_for, Encodable, Acceptable, PartsRead}
+use Rattle.value_reader.proofs.DecodeIs.{body_is}
+use Rattle.value_reader.proofs.ReadSteps.{after_short, after_whole}
 use Rattle.value_reader.proofs.UtcBody.{acceptable}
-use Rattle.value_reader.proofs.LocalFields.{attosecondsFrom, local-valid, body-again}
-use Rattle.value_reader.proofs.Values.{decode-value, body-read}
+use Rattle.value_reader.proofs.LocalFields.{attoseconds_from, local_valid, body_again}
+use Rattle.value_reader.proofs.Values.{decode_value, body_read}
 
 -- ---- a body of n bytes in all that is decoded to x
 
-module _ (n : ℕ) (b : List ℕ) (x : Body) (bytes : Below 256 b) (decoded : decodeBody b ≡ found x) where
+module _ (n : ℕ) (b : List ℕ) (x : Body) (bytes : Below 256 b) (decoded : decode_body b ≡ found x) where
   module _ (q : Acceptable x) where
-    local : Valid (localBy x.offset x.utc) (attosecondsFrom x)
-    local = local-valid x (body-is b x bytes decoded).encodable q
+    local : Valid (local_by x.offset x.utc) (attoseconds_from x)
+    local = local_valid x (body_is b x bytes decoded).encodable q
 
-    accepted : Accepted (pairFrom x)
-    unfolding pairFrom
-    accepted = valid-accepted local
+    accepted : Accepted (pair_from x)
+    unfolding pair_from
+    accepted = valid_accepted local
 
-    body-same : bodyOf (pairFrom x) ≡ b
-    unfolding pairFrom bodyOf
-    body-same =
-        let w = body-is b x bytes decoded in
-        let packed = unpack-pack (localBy x.offset x.utc) (valid-in-range local) in
-        ap (λ (y : Body). bodyFrom y.offset y.utc y.coefficient)
-        (ap (λ (g : Fields). bodyFor g (attosecondsFrom x)) packed ∙ body-again x w.encodable q)
+    body_same : body_of (pair_from x) ≡ b
+    unfolding pair_from body_of
+    body_same =
+        let w = body_is b x bytes decoded in
+        let packed = unpack_pack (local_by x.offset x.utc) (valid_in_range local) in
+        ap (λ (y : Body). body_from y.offset y.utc y.coefficient)
+        (ap (λ (g : Fields). body_for g (attoseconds_from x)) packed ∙ body_again x w.encodable q)
         ∙ sym w.bytes
 
-    body-accepted : readBody n b ≡ acceptedReading (pairFrom x) n
-    body-accepted = ap (readBody n) (sym body-same) ∙ body-read (pairFrom x) accepted n
+    body_accepted : read_body n b ≡ accepted_reading (pair_from x) n
+    body_accepted = ap (read_body n) (sym body_same) ∙ body_read (pair_from x) accepted n
 
-  body-refused : (Acceptable x → ⊥) → readBody n b ≡ refusedReading bodyRefused
-  unfolding readBody isBodyOf
-  body-refused h = ap (takenAs n b) decoded ∙ go (isBodyOf b (pairFrom x)) refl
+  body_refused_lem : (Acceptable x → ⊥) → read_body n b ≡ refused_reading body_refused
+  unfolding read_body is_body_of
+  body_refused_lem h = ap (taken_as n b) decoded ∙ go (is_body_of b (pair_from x)) refl
     where
-      go : (t : Bool) → isBodyOf b (pairFrom x) ≡ t
-          → cond t (acceptedReading (pairFrom x) n) (refusedReading bodyRefused) ≡ refusedReading bodyRefused
+      go : (t : Bool) → is_body_of b (pair_from x) ≡ t
+          → cond t (accepted_reading (pair_from x) n) (refused_reading body_refused) ≡ refused_reading body_refused
       go true e =
-          let s = pairFrom x in
-          let p = (and-eq-true_iff (eqb (checkNumber s) 0) (same (bodyOf s) b)).0 e in
-          let a = check-gives s (eqb-true (checkNumber s) 0 p.0) in
-          let y = bodyFor (fieldsOf (wordIn s)) s.attoseconds in
-          let d : found x ≡ found y = sym decoded ∙ ap decodeBody (sym (same-is (bodyOf s) b p.1)) ∙ decode-value s a in
+          let s = pair_from x in
+          let p = (and-eq-true_iff (eqb (check_number s) 0) (same (body_of s) b)).0 e in
+          let a = check_gives s (eqb-true (check_number s) 0 p.0) in
+          let y = body_for (fields_of (word_in s)) s.attoseconds in
+          let d : found x ≡ found y = sym decoded ∙ ap decode_body (sym (same_is (body_of s) b p.1)) ∙ decode_value s a in
           let z : x ≡ y = cc in
-          absurd (h (rw z (acceptable (fieldsOf (wordIn s)) s.attoseconds a.fields)))
+          absurd (h (rw z (acceptable (fields_of (word_in s)) s.attoseconds a.fields)))
       go false e = refl
 
-  parts-read : (r : Read) → PartsRead x n r → readBody n b ≡ r
-  parts-read r (inl (q, e)) = body-accepted q ∙ sym e
-  parts-read r (inr (h, e)) = body-refused h ∙ sym e
+  parts_read : (r : Read) → PartsRead x n r → read_body n b ≡ r
+  parts_read r (inl (q, e)) = body_accepted q ∙ sym e
+  parts_read r (inr (h, e)) = body_refused_lem h ∙ sym e
 
-nothing-read : (n : ℕ) (b : List ℕ) → decodeBody b ≡ nothing → readBody n b ≡ refusedReading bodyRefused
-unfolding readBody
-nothing-read n b e = ap (takenAs n b) e
+nothing_read : (n : ℕ) (b : List ℕ) → decode_body b ≡ nothing → read_body n b ≡ refused_reading body_refused
+unfolding read_body
+nothing_read n b e = ap (taken_as n b) e
 
 -- ---- a body of n bytes from index at on, as the code takes them from s
 
@@ -86,28 +86,28 @@ module _ (s : List ℕ) (at n : ℕ) where
   abbrev taken : List ℕ
   taken = take (at + n - at) (drop at s)
 
-  pub input-ends : length s - at < n → readAfter at n (drop at s) ≡ refusedReading inputEnds
-  input-ends h = after-short at n (drop at s) (omega (arith, length-drop at s))
+  pub input_ends_lem : length s - at < n → read_after at n (drop at s) ≡ refused_reading input_ends
+  input_ends_lem h = after_short at n (drop at s) (omega (arith, length-drop at s))
 
-  whole : n ≤ length s - at → readAfter at n (drop at s) ≡ readBody (at + n) taken
+  whole : n ≤ length s - at → read_after at n (drop at s) ≡ read_body (at + n) taken
   whole h =
       let k : n ≡ at + n - at = omega arith in
-      after-whole at n (drop at s) (omega (arith, length-drop at s)) ∙ ap (λ (m : ℕ). readBody (at + n) (take m (drop at s))) k
+      after_whole at n (drop at s) (omega (arith, length-drop at s)) ∙ ap (λ (m : ℕ). read_body (at + n) (take m (drop at s))) k
 
-  pub no-parts : n ≤ length s - at → decodeBody taken ≡ nothing → readAfter at n (drop at s) ≡ refusedReading bodyRefused
-  no-parts h e = whole h ∙ nothing-read (at + n) taken e
+  pub no_parts : n ≤ length s - at → decode_body taken ≡ nothing → read_after at n (drop at s) ≡ refused_reading body_refused
+  no_parts h e = whole h ∙ nothing_read (at + n) taken e
 
   -- its parts
-  module _ (bytes : (i : ℕ) → Fits w8 (get_or s i 0)) (x : Body) (e : decodeBody taken ≡ found x) where
+  module _ (bytes : (i : ℕ) → Fits w8 (get_or s i 0)) (x : Body) (e : decode_body taken ≡ found x) where
     below : Below 256 taken
-    below = below-take 256 (at + n - at) (drop at s) (lit< tt) (below-drop 256 at s (λ i. (bytes i).fits))
+    below = below_take 256 (at + n - at) (drop at s) (lit< tt) (below_drop 256 at s (λ i. (bytes i).fits))
 
-    pub parts-encodable : Encodable x
-    parts-encodable = (body-is taken x below e).encodable
+    pub parts_encodable : Encodable x
+    parts_encodable = (body_is taken x below e).encodable
 
-    pub parts-taken : (r : Read) → n ≤ length s - at → PartsRead x (at + n) r → r ≡ readAfter at n (drop at s)
-    parts-taken r h p = sym (whole h ∙ parts-read (at + n) taken x below e r p)
+    pub parts_taken : (r : Read) → n ≤ length s - at → PartsRead x (at + n) r → r ≡ read_after at n (drop at s)
+    parts_taken r h p = sym (whole h ∙ parts_read (at + n) taken x below e r p)
 
 -- ---- a list of laws, for the code
 
-pub ruleset readings = (input-ends, no-parts)
+pub ruleset readings = (input_ends_lem, no_parts)

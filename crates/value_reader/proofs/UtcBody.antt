@@ -6,86 +6,86 @@ use native.Mathlib.Nat.{div-add-mod', div-le_self}
 use native.Mathlib.Omega.{arith}
 use lib.Dec.{lit≤}
 use lib.IntN.{neg_ℤ}
-use Rattle.places.proofs.Below.{below-cons}
-use Rattle.ion.specs.Pair.Offset.{WithinDay, rawOffset, rawOf, offsetOf}
+use Rattle.places.proofs.Below.{below_cons}
+use Rattle.ion.specs.Pair.Offset.{WithinDay, raw_offset, raw_of, offset_of}
 use Rattle.ion.specs.Pair.Fraction.{scale}
-use Rattle.ion.specs.Calls.Accepted.{Valid, timeIn}
-use Rattle.ion.specs.Calls.Utc.{withTime, utcBy, utcFields}
-use Rattle.ion.specs.Value.Decode.{localBy}
+use Rattle.ion.specs.Calls.Accepted.{Valid, time_in}
+use Rattle.ion.specs.Calls.Utc.{with_time, utc_by, utc_fields}
+use Rattle.ion.specs.Value.Decode.{local_by}
 use Rattle.ion.specs.declared.Fields.{Fields}
 use Rattle.ion.specs.declared.offset.Offset.{Offset}
 use Rattle.ion.specs.declared.offset.Offset.TheVariants.{Unknown, Known}
-use Rattle.ion.proofs.Offsets.{back-and-raw}
-use Rattle.calendar.proofs.Shifts.{shift-forth, shift-room}
-use Rattle.fraction.proofs.Scales.{units-lt}
-use Rattle.timestamp.proofs.Valid.{valid-time, valid-offset}
-use Rattle.timestamp.proofs.UtcForm.{negated-within, utc-is}
-use Rattle.timestamp_binary.proofs.Lengths.{fields-below}
-use Rattle.value_reader.specs.BodyParts.{bodyFor, Encodable, Acceptable}
+use Rattle.ion.proofs.Offsets.{back_and_raw}
+use Rattle.calendar.proofs.Shifts.{shift_forth, shift_room}
+use Rattle.fraction.proofs.Scales.{units_lt}
+use Rattle.timestamp.proofs.Valid.{valid_time, valid_offset}
+use Rattle.timestamp.proofs.UtcForm.{negated_within, utc_is}
+use Rattle.timestamp_binary.proofs.Lengths.{fields_below}
+use Rattle.value_reader.specs.BodyParts.{body_for, Encodable, Acceptable}
 
 module _ (f : Fields) (a : ℕ) (v : Valid f a) where
   -- ---- no more of the fraction than its digits
 
-  coefficient-below : a / scale f.digits < 10 ^ f.digits
-  coefficient-below = units-lt f.digits a v.digits v.attoseconds
+  coefficient_below : a / scale f.digits < 10 ^ f.digits
+  coefficient_below = units_lt f.digits a v.digits v.attoseconds
 
-  no-coefficient : f.digits ≡ 0 → a / scale f.digits ≡ 0
-  no-coefficient e = let h = rw e at coefficient-below in rw e (omega arith)
+  no_coefficient : f.digits ≡ 0 → a / scale f.digits ≡ 0
+  no_coefficient e = let h = rw e at coefficient_below in rw e (omega arith)
 
-  pub attoseconds-back : a / scale f.digits * scale f.digits ≡ a
-  attoseconds-back = omega (arith, div-add-mod' a (scale f.digits), v.multiple)
+  pub attoseconds_back : a / scale f.digits * scale f.digits ≡ a
+  attoseconds_back = omega (arith, div-add-mod' a (scale f.digits), v.multiple)
 
   -- ---- the fields
 
   -- without an hour there is no known offset, and the UTC fields are the local ones
-  unknown : f.precision < 3 → offsetOf f.offset ≡ Unknown
-  unknown h = ap (λ (n : ℕ). offsetOf (rawOffset n)) (v.no-offset h)
+  unknown : f.precision < 3 → offset_of f.offset ≡ Unknown
+  unknown h = ap (λ (n : ℕ). offset_of (raw_offset n)) (v.no_offset h)
 
-  coarse : f.precision < 3 → utcFields f ≡ f
-  unfolding utcFields
-  coarse h = ap (λ (o : Offset). utcBy o f) (unknown h)
+  coarse : f.precision < 3 → utc_fields f ≡ f
+  unfolding utc_fields
+  coarse h = ap (λ (o : Offset). utc_by o f) (unknown h)
 
-  raw-again : {o : Offset} → offsetOf f.offset ≡ o → rawOf o ≡ f.offset
-  raw-again e = ap rawOf (sym e) ∙ back-and-raw f.offset v.offset
+  raw_again : {o : Offset} → offset_of f.offset ≡ o → raw_of o ≡ f.offset
+  raw_again e = ap raw_of (sym e) ∙ back_and_raw f.offset v.offset
 
   -- the parts give the fields back
-  pub fields-again : localBy (offsetOf f.offset) (utcFields f) ≡ f
-  unfolding utcFields
-  fields-again = go (offsetOf f.offset) refl (valid-offset v)
+  pub fields_again : local_by (offset_of f.offset) (utc_fields f) ≡ f
+  unfolding utc_fields
+  fields_again = go (offset_of f.offset) refl (valid_offset v)
     where
-      go : (o : Offset) → offsetOf f.offset ≡ o → WithinDay o → localBy o (utcBy o f) ≡ f
-      go Unknown e w = ap (withTime f (timeIn f)) (raw-again e)
+      go : (o : Offset) → offset_of f.offset ≡ o → WithinDay o → local_by o (utc_by o f) ≡ f
+      go Unknown e w = ap (with_time f (time_in f)) (raw_again e)
       go (Known m) e w =
-          let room = shift-room (timeIn f) (neg_ℤ m.0) v.from-year (negated-within m.0 w) in
-          ap₂ (withTime f) (shift-forth (timeIn f) m.0 (valid-time v) room) (raw-again e)
+          let room = shift_room (time_in f) (neg_ℤ m.0) v.from_year (negated_within m.0 w) in
+          ap₂ (with_time f) (shift_forth (time_in f) m.0 (valid_time v) room) (raw_again e)
 
   -- ---- the parts
 
-  pub encodable : Encodable (bodyFor f a)
+  pub encodable : Encodable (body_for f a)
   encodable =
-      let u = utc-is v in
-      let g = utcFields f in
+      let u = utc_is v in
+      let g = utc_fields f in
       record {
-        within-day = valid-offset v;
-        no-raw = ap rawOffset u.offset;
+        within_day = valid_offset v;
+        no_raw = ap raw_offset u.offset;
         precise = omega (arith, u.precision, v.precision);
         small =
-            below-cons 16384 g.year (g.month ∷ g.day ∷ g.hour ∷ g.minute ∷ g.second ∷ []) (omega (arith, u.year))
-            (fields-below 16384 (lit≤ tt) g u.time (omega (arith, u.second, v.second)));
-        no-month = λ h. ap (λ (x : Fields). x.month) (coarse (omega (arith, u.precision))) ∙ v.no-month (omega (arith, u.precision));
-        no-day = λ h. ap (λ (x : Fields). x.day) (coarse (omega (arith, u.precision))) ∙ v.no-day (omega (arith, u.precision));
-        no-hour = λ h. ap (λ (x : Fields). x.hour) (coarse (omega (arith, u.precision))) ∙ v.no-hour (omega (arith, u.precision));
-        no-minute = λ h. ap (λ (x : Fields). x.minute) (coarse (omega (arith, u.precision))) ∙ v.no-minute (omega (arith, u.precision));
-        no-second = λ h. u.second ∙ v.no-second (omega (arith, u.precision));
-        no-digits = λ h. u.digits ∙ v.no-digits (omega (arith, u.precision));
-        few-digits = omega (arith, u.digits, v.digits);
+            below_cons 16384 g.year (g.month ∷ g.day ∷ g.hour ∷ g.minute ∷ g.second ∷ []) (omega (arith, u.year))
+            (fields_below 16384 (lit≤ tt) g u.time (omega (arith, u.second, v.second)));
+        no_month = λ h. ap (λ (x : Fields). x.month) (coarse (omega (arith, u.precision))) ∙ v.no_month (omega (arith, u.precision));
+        no_day_lem = λ h. ap (λ (x : Fields). x.day) (coarse (omega (arith, u.precision))) ∙ v.no_day_lem (omega (arith, u.precision));
+        no_hour = λ h. ap (λ (x : Fields). x.hour) (coarse (omega (arith, u.precision))) ∙ v.no_hour (omega (arith, u.precision));
+        no_minute = λ h. ap (λ (x : Fields). x.minute) (coarse (omega (arith, u.precision))) ∙ v.no_minute (omega (arith, u.precision));
+        no_second = λ h. u.second ∙ v.no_second (omega (arith, u.precision));
+        no_digits = λ h. u.digits ∙ v.no_digits (omega (arith, u.precision));
+        few_digits = omega (arith, u.digits, v.digits);
         coefficient = omega (arith, div-le_self a (scale f.digits), v.attoseconds);
-        no-coefficient = λ e. no-coefficient (sym u.digits ∙ e);
+        no_coefficient = λ e. no_coefficient (sym u.digits ∙ e);
       }
 
-  pub acceptable : Acceptable (bodyFor f a)
+  pub acceptable : Acceptable (body_for f a)
   acceptable =
-      let u = utc-is v in
+      let u = utc_is v in
       record {
         bounds =
             record {
@@ -93,9 +93,9 @@ module _ (f : Fields) (a : ℕ) (v : Valid f a) where
               year = u.year;
               second = omega (arith, u.second, v.second);
               digits = omega (arith, u.digits, v.digits);
-              coefficient = rw u.digits coefficient-below;
-              known-late = λ h. unknown (omega (arith, u.precision));
+              coefficient = rw u.digits coefficient_below;
+              known_late = λ h. unknown (omega (arith, u.precision));
             };
-        from-year = rw fields-again v.from-year;
-        to-year = rw fields-again v.to-year;
+        from_year = rw fields_again v.from_year;
+        to_year = rw fields_again v.to_year;
       }

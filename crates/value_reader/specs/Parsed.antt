@@ -9,21 +9,21 @@ use Rattle.value_reader.specs.declared.decoder.FractionRead.{FractionRead}
 use Rattle.value_reader.specs.declared.decoder.FractionRead.TheVariants as fraction
 
 -- the parts
-abbrev pub bodyIn : BodyRead → Decoded Body
-bodyIn (body.Parts x) = found x
-bodyIn body.Nothing = nothing
+abbrev pub body_in : BodyRead → Decoded Body
+body_in (body.Parts x) = found x
+body_in body.Nothing = nothing
 
 -- the digits and the coefficient
-abbrev pub fractionIn : FractionRead → Decoded (ℕ × ℕ)
-fractionIn (fraction.Parts d c) = found (d, c)
-fractionIn fraction.Nothing = nothing
+abbrev pub fraction_in : FractionRead → Decoded (ℕ × ℕ)
+fraction_in (fraction.Parts d c) = found (d, c)
+fraction_in fraction.Nothing = nothing
 
 -- the fields that are there, and the bytes of s after them
-abbrev pub fieldsIn : List ℕ → FieldsRead → Decoded (List ℕ × List ℕ)
-fieldsIn s r = cond r.found (found (take r.count r.values, drop r.next s)) nothing
+abbrev pub fields_in : List ℕ → FieldsRead → Decoded (List ℕ × List ℕ)
+fields_in s r = cond r.found (found (take r.count r.values, drop r.next s)) nothing
 
 -- r tells the fields and what follows them in s; those that are not there have their first values
 pub record FieldsAre (s : List ℕ) (q : Decoded (List ℕ × List ℕ)) (r : FieldsRead) : Type 0 where
-  pub decoded : fieldsIn s r ≡ q
+  pub decoded : fields_in s r ≡ q
   pub values : r.values ≡ filled (take r.count r.values)
   pub most : r.count ≤ 6

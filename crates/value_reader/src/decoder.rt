@@ -1,9 +1,9 @@
 // The parts of a body, each in its shortest form.
 ghost use Rattle.std.specs.Prelude.{◌≡◌, false, ◌≤◌, length, drop};
-ghost use Rattle.ion.specs.Numbers.Int.{readInt};
-ghost use Rattle.ion.specs.Value.Decode.{signedOffset, coefficientFrom, decodeFields, decodeFraction, firstValues};
-ghost use Rattle.ion.specs.Value.Decode.{fieldsFrom, precisionWith, afterOffset, decodeBody};
-ghost use Rattle.value_reader.specs.Parsed.{FieldsAre, fractionIn, bodyIn};
+ghost use Rattle.ion.specs.Numbers.Int.{read_int};
+ghost use Rattle.ion.specs.Value.Decode.{signed_offset, coefficient_from, decode_fields, decode_fraction, first_values};
+ghost use Rattle.ion.specs.Value.Decode.{fields_from, precision_with, after_offset, decode_body};
+ghost use Rattle.value_reader.specs.Parsed.{FieldsAre, fraction_in, body_in};
 
 use binary::{int, var_int, var_uint};
 use ion::offset::{Offset, OffsetMinutes};
@@ -39,7 +39,7 @@ const FIRST_VALUES: [u32; 6] = [0, 1, 1, 0, 0, 0];
 // Negative zero is unknown.
 fn signed_offset(negative: bool, magnitude: u64) -> Offset
     requires { magnitude ≤ 1439 }
-    ensures { result ≡ signedOffset negative magnitude }
+    ensures { result ≡ signed_offset negative magnitude }
 {
     if !negative {
         return Offset::Known(OffsetMinutes::new(magnitude as i32));
@@ -52,7 +52,7 @@ fn signed_offset(negative: bool, magnitude: u64) -> Offset
 
 // The answer where something is no field.
 fn no_fields() -> FieldsRead
-    ensures { (result.found ≡ false) × (result.values ≡ firstValues) × (result.count ≡ 0) }
+    ensures { (result.found ≡ false) × (result.values ≡ first_values) × (result.count ≡ 0) }
 {
     FieldsRead {
         found: false,
@@ -65,7 +65,7 @@ fn no_fields() -> FieldsRead
 // Up to six fields from index `at` on.
 #[tactic(auto, using(crate::proofs::FieldSteps::fields))]
 fn read_fields(s: &[u8], at: usize) -> FieldsRead
-    ensures { FieldsAre s.now (decodeFields 6 (drop at s.now)) result }
+    ensures { FieldsAre s.now (decode_fields 6 (drop at s.now)) result }
 {
     let mut values = FIRST_VALUES;
     let mut count: usize = 0;
@@ -96,7 +96,7 @@ fn read_fields(s: &[u8], at: usize) -> FieldsRead
 // The coefficient that the bytes from index `at` on are, all of them.
 fn read_coefficient(s: &[u8], at: usize, digits: u32) -> FractionRead
     requires { at ≤ length s.now }
-    ensures { fractionIn result ≡ coefficientFrom digits (readInt (drop at s.now)) }
+    ensures { fraction_in result ≡ coefficient_from digits (read_int (drop at s.now)) }
 {
     match int::read_u64(&s[at..]) {
         IntRead::Value(c) => FractionRead::Parts(digits, c),
@@ -107,7 +107,7 @@ fn read_coefficient(s: &[u8], at: usize, digits: u32) -> FractionRead
 // The fraction that the bytes from index `at` on are, all of them.
 #[tactic(auto, using(crate::proofs::FieldSteps::fractions))]
 fn read_fraction(s: &[u8], at: usize) -> FractionRead
-    ensures { fractionIn result ≡ decodeFraction (drop at s.now) }
+    ensures { fraction_in result ≡ decode_fraction (drop at s.now) }
 {
     if s.len() <= at {
         return FractionRead::Parts(0, 0);
@@ -126,10 +126,10 @@ fn read_fraction(s: &[u8], at: usize) -> FractionRead
 }
 
 // The precision with a number of fields.
-#[tactic(auto, unfolding(ion::specs::Value::Decode::precisionWith))]
+#[tactic(auto, unfolding(ion::specs::Value::Decode::precision_with))]
 fn precision_with(count: usize) -> u32
     requires { count ≤ 6 }
-    ensures { result ≡ precisionWith count }
+    ensures { result ≡ precision_with count }
 {
     if 3 < count {
         return (count - 2) as u32;
@@ -143,7 +143,7 @@ fn precision_with(count: usize) -> u32
 // UTC fields, of which `count` are there.
 fn fields_from(values: [u32; 6], count: usize, digits: u32) -> Fields
     requires { count ≤ 6 }
-    ensures { result ≡ fieldsFrom values (precisionWith count) digits }
+    ensures { result ≡ fields_from values (precision_with count) digits }
 {
     Fields {
         year: values[0],
@@ -161,7 +161,7 @@ fn fields_from(values: [u32; 6], count: usize, digits: u32) -> Fields
 // The parts of a body that has fields and a fraction from index `at` on.
 #[tactic(auto, using(crate::proofs::FieldSteps::bodies))]
 fn after_offset(s: &[u8], at: usize, offset: Offset) -> BodyRead
-    ensures { bodyIn result ≡ afterOffset offset (decodeFields 6 (drop at s.now)) }
+    ensures { body_in result ≡ after_offset offset (decode_fields 6 (drop at s.now)) }
 {
     let f = read_fields(s, at);
     let values = f.values;
@@ -182,7 +182,7 @@ fn after_offset(s: &[u8], at: usize, offset: Offset) -> BodyRead
 // The parts of the body that `s` is, all of it.
 #[tactic(auto, using(crate::proofs::FieldSteps::parts))]
 pub(crate) fn decode_body(s: &[u8]) -> BodyRead
-    ensures { bodyIn result ≡ decodeBody s.now }
+    ensures { body_in result ≡ decode_body s.now }
 {
     match var_int::read_i64(s, 0, 1439) {
         VarIntRead::Value(negative, magnitude, n) => {

@@ -1,8 +1,8 @@
 // The reader of a value, which takes the writer's bytes and no others.
 ghost use Rattle.std.specs.Prelude.{◌≡◌, true, ◌≤◌, length, drop};
-ghost use Rattle.ion.specs.Value.Decode.{localBy};
-ghost use Rattle.ion.specs.Value.ReadValue.{refusedReading, readAfter, readValue};
-ghost use Rattle.value_reader.specs.BodyParts.{Encodable, UtcInBounds, offsetFits, PartsRead};
+ghost use Rattle.ion.specs.Value.Decode.{local_by};
+ghost use Rattle.ion.specs.Value.ReadValue.{refused_reading, read_after, read_value};
+ghost use Rattle.value_reader.specs.BodyParts.{Encodable, UtcInBounds, offset_fits, PartsRead};
 
 use crate::decoder::{BodyRead, decode_body};
 use binary::var_uint::END_FLAG;
@@ -17,7 +17,7 @@ const MAX_LENGTH: u8 = END_FLAG + MAX_BODY_LENGTH as u8;
 
 // The answer of a refusal.
 fn refused(number: u32) -> Read
-    ensures { result ≡ refusedReading number }
+    ensures { result ≡ refused_reading number }
 {
     Read {
         number: number,
@@ -31,7 +31,7 @@ fn refused(number: u32) -> Read
 
 // Whether an offset may stand beside a precision: a known one only from the hour on.
 fn offset_fits(precision: u32, o: Offset) -> bool
-    ensures { result ≡ offsetFits precision o }
+    ensures { result ≡ offset_fits precision o }
 {
     match o {
         Offset::Unknown => true,
@@ -62,7 +62,7 @@ fn utc_in_bounds(x: Body) -> bool
 // The local fields of parts.
 fn local_fields(x: Body) -> Fields
     requires { Encodable x × UtcInBounds x }
-    ensures { result ≡ localBy x.offset x.utc }
+    ensures { result ≡ local_by x.offset x.utc }
 {
     let o = x.offset;
     let u = x.utc;
@@ -73,7 +73,7 @@ fn local_fields(x: Body) -> Fields
 }
 
 // The timestamp of parts, with which `taken` bytes are taken. Its local year decides, not the UTC year.
-#[tactic(auto, using(crate::proofs::LocalFields::local_fields), unfolding(ion::specs::Value::Decode::pairFrom))]
+#[tactic(auto, using(crate::proofs::LocalFields::local_fields), unfolding(ion::specs::Value::Decode::pair_from))]
 fn read_parts(x: Body, taken: usize) -> Read
     requires { Encodable x }
     ensures { PartsRead x taken result }
@@ -99,7 +99,7 @@ fn read_parts(x: Body, taken: usize) -> Read
 #[tactic(auto, using(crate::proofs::PartsReadings::readings))]
 fn read_after(s: &[u8], at: usize, n: usize) -> Read
     requires { at ≤ length s.now }
-    ensures { result ≡ readAfter at n (drop at s.now) }
+    ensures { result ≡ read_after at n (drop at s.now) }
 {
     if s.len() - at < n {
         return refused(refusal::INPUT_ENDS);
@@ -114,7 +114,7 @@ fn read_after(s: &[u8], at: usize, n: usize) -> Read
 // Reads the value with which `s` begins. Bytes after it are not read.
 #[tactic(auto, using(crate::proofs::ReadSteps::values))]
 pub fn read_value(s: &[u8]) -> Read
-    ensures { result ≡ readValue s.now }
+    ensures { result ≡ read_value s.now }
 {
     if s.len() == 0 {
         return refused(refusal::INPUT_ENDS);

@@ -6,5 +6,5 @@ abbrev pub answered : {A : Type 0} → ℕ → A → (ℕ → A) → A
 answered n a refused = cond (eqb n 0) a (refused n)
 
 -- the first of two checks' numbers that is not 0, or 0
-abbrev pub firstRefusal : ℕ → ℕ → ℕ
-firstRefusal m n = answered m n (λ m. m)
+abbrev pub first_refusal : ℕ → ℕ → ℕ
+first_refusal m n = answered m n (λ m. m)

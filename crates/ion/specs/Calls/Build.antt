@@ -2,11 +2,11 @@
 use Rattle.std.specs.Prelude.{ℕ, ◌^◌, Bool, true, false, not, cond, ◌&&◌, List, [], ◌∷◌, ◌++◌, leb, ltb}
 use Rattle.ion.specs.Calls.Refusal as refused
 use Rattle.ion.specs.Calls.Answered.{answered}
-use Rattle.ion.specs.Calendar.Dates.{isDate}
-use Rattle.ion.specs.Pair.Offset.{isOffset, rawOf}
+use Rattle.ion.specs.Calendar.Dates.{is_date}
+use Rattle.ion.specs.Pair.Offset.{is_offset, raw_of}
 use Rattle.ion.specs.Calendar.Shift.{shifted}
-use Rattle.ion.specs.Pair.Word.{wordOf}
-use Rattle.ion.specs.Pair.Pair.{packedPair, noStamp}
+use Rattle.ion.specs.Pair.Word.{word_of}
+use Rattle.ion.specs.Pair.Pair.{packed_pair, no_stamp}
 use Rattle.ion.specs.declared.DateTime.{DateTime}
 use Rattle.ion.specs.declared.Fields.{Fields}
 use Rattle.ion.specs.declared.offset.OffsetMinutes.{OffsetMinutes}
@@ -20,89 +20,89 @@ use Rattle.ion.specs.declared.BuilderFields.{BuilderFields}
 use Rattle.ion.specs.declared.Timestamp.{Timestamp}
 use Rattle.ion.specs.declared.Built.{Built}
 
-abbrev pub precisionNumber : TimestampPrecision → ℕ
-precisionNumber Year = 0
-precisionNumber Month = 1
-precisionNumber Day = 2
-precisionNumber HourAndMinute = 3
-precisionNumber Second = 4
+abbrev pub precision_number : TimestampPrecision → ℕ
+precision_number Year = 0
+precision_number Month = 1
+precision_number Day = 2
+precision_number HourAndMinute = 3
+precision_number Second = 4
 
 -- ---- checks: whether each fails, and its number
 
 -- the number of the first that fails, or 0
-abbrev pub firstOf : List (Bool × ℕ) → ℕ
-firstOf [] = 0
-firstOf (t ∷ ts) = cond t.0 t.1 (firstOf ts)
+abbrev pub first_of : List (Bool × ℕ) → ℕ
+first_of [] = 0
+first_of (t ∷ ts) = cond t.0 t.1 (first_of ts)
 
 -- the offset of what is built
-abbrev pub toOffset : BuilderOffset → Offset
-toOffset Unknown = offset.Unknown
-toOffset (FromLocalFields m) = offset.Known m
-toOffset (FromUtcFields m) = offset.Known m
+abbrev pub to_offset : BuilderOffset → Offset
+to_offset Unknown = offset.Unknown
+to_offset (FromLocalFields m) = offset.Known m
+to_offset (FromUtcFields m) = offset.Known m
 
 -- whether the fields are UTC's
-abbrev pub isUtc : BuilderOffset → Bool
-isUtc Unknown = false
-isUtc (FromLocalFields m) = false
-isUtc (FromUtcFields m) = true
+abbrev pub is_utc : BuilderOffset → Bool
+is_utc Unknown = false
+is_utc (FromLocalFields m) = false
+is_utc (FromUtcFields m) = true
 
 -- a known offset of a day or more
-abbrev pub offsetOutside : BuilderOffset → Bool
-offsetOutside Unknown = false
-offsetOutside (FromLocalFields m) = not (isOffset m.0)
-offsetOutside (FromUtcFields m) = not (isOffset m.0)
+abbrev pub offset_outside : BuilderOffset → Bool
+offset_outside Unknown = false
+offset_outside (FromLocalFields m) = not (is_offset m.0)
+offset_outside (FromUtcFields m) = not (is_offset m.0)
 
 -- the checks 1 to 9
-abbrev pub rangeChecks : BuilderFields → List (Bool × ℕ)
-rangeChecks f =
-    (leb (10 ^ 18) f.attoseconds, refused.fractionRefused)
-    ∷ (ltb 9999 f.year, refused.yearRefused)
-    ∷ (ltb 12 f.month, refused.monthRefused)
-    ∷ (ltb 31 f.day, refused.dayRefused)
-    ∷ (ltb 23 f.hour, refused.hourRefused)
-    ∷ (ltb 59 f.minute, refused.minuteRefused)
-    ∷ (ltb 59 f.second, refused.secondRefused)
-    ∷ (ltb 18 f.digits, refused.digitsRefused)
-    ∷ (offsetOutside f.offset, refused.offsetRefused)
+abbrev pub range_checks : BuilderFields → List (Bool × ℕ)
+range_checks f =
+    (leb (10 ^ 18) f.attoseconds, refused.fraction_refused)
+    ∷ (ltb 9999 f.year, refused.year_refused)
+    ∷ (ltb 12 f.month, refused.month_refused)
+    ∷ (ltb 31 f.day, refused.day_refused)
+    ∷ (ltb 23 f.hour, refused.hour_refused)
+    ∷ (ltb 59 f.minute, refused.minute_refused)
+    ∷ (ltb 59 f.second, refused.second_refused)
+    ∷ (ltb 18 f.digits, refused.digits_refused)
+    ∷ (offset_outside f.offset, refused.offset_refused)
     ∷ []
 
--- whether there is such a calendar day; that of a year alone is its first, which there always is: `year-alone` of crate builder
-abbrev pub isDay : BuilderFields → Bool
-isDay f = isDate (record { year = f.year; month = f.month; day = f.day })
+-- whether there is such a calendar day; that of a year alone is its first, which there always is: `year_alone` of crate builder
+abbrev pub is_day : BuilderFields → Bool
+is_day f = is_date (record { year = f.year; month = f.month; day = f.day })
 
 -- a local year
-abbrev pub isYear : ℕ → Bool
-isYear y = leb 1 y && leb y 9999
+abbrev pub is_year : ℕ → Bool
+is_year y = leb 1 y && leb y 9999
 
 -- the fields to the minute, as given and as moved from UTC to an offset
-abbrev pub givenTime : BuilderFields → DateTime
-givenTime f = record { year = f.year; month = f.month; day = f.day; hour = f.hour; minute = f.minute }
+abbrev pub given_time : BuilderFields → DateTime
+given_time f = record { year = f.year; month = f.month; day = f.day; hour = f.hour; minute = f.minute }
 
-abbrev pub movedTime : BuilderFields → OffsetMinutes → DateTime
-movedTime f m = shifted (givenTime f) m.0
+abbrev pub moved_time : BuilderFields → OffsetMinutes → DateTime
+moved_time f m = shifted (given_time f) m.0
 
-abbrev pub localChecks : BuilderFields → List (Bool × ℕ)
-localChecks f = (not (isYear f.year), refused.localYearRefused) ∷ (not (isDay f), refused.noDay) ∷ []
+abbrev pub local_checks : BuilderFields → List (Bool × ℕ)
+local_checks f = (not (is_year f.year), refused.local_year_refused) ∷ (not (is_day f), refused.no_day) ∷ []
 
-abbrev pub utcChecks : BuilderFields → OffsetMinutes → List (Bool × ℕ)
-utcChecks f m = (not (isDay f), refused.noDay) ∷ (not (isYear (movedTime f m).year), refused.localYearRefused) ∷ []
+abbrev pub utc_checks : BuilderFields → OffsetMinutes → List (Bool × ℕ)
+utc_checks f m = (not (is_day f), refused.no_day) ∷ (not (is_year (moved_time f m).year), refused.local_year_refused) ∷ []
 
 -- the checks 10 and 11
-abbrev pub routeChecks : BuilderFields → BuilderOffset → List (Bool × ℕ)
-routeChecks f Unknown = localChecks f
-routeChecks f (FromLocalFields m) = localChecks f
-routeChecks f (FromUtcFields m) = utcChecks f m
+abbrev pub route_checks : BuilderFields → BuilderOffset → List (Bool × ℕ)
+route_checks f Unknown = local_checks f
+route_checks f (FromLocalFields m) = local_checks f
+route_checks f (FromUtcFields m) = utc_checks f m
 
 -- ---- the pair
 
 -- the local fields to the minute
-abbrev pub localTime : BuilderFields → BuilderOffset → DateTime
-localTime f Unknown = givenTime f
-localTime f (FromLocalFields m) = givenTime f
-localTime f (FromUtcFields m) = movedTime f m
+abbrev pub local_time : BuilderFields → BuilderOffset → DateTime
+local_time f Unknown = given_time f
+local_time f (FromLocalFields m) = given_time f
+local_time f (FromUtcFields m) = moved_time f m
 
-abbrev pub packedOf : BuilderFields → DateTime → Offset → Fields
-packedOf f t o =
+abbrev pub packed_of : BuilderFields → DateTime → Offset → Fields
+packed_of f t o =
     record {
       year = t.year;
       month = t.month;
@@ -110,31 +110,31 @@ packedOf f t o =
       hour = t.hour;
       minute = t.minute;
       second = f.second;
-      precision = precisionNumber f.precision;
+      precision = precision_number f.precision;
       digits = f.digits;
-      offset = rawOf o;
+      offset = raw_of o;
     }
 
-abbrev pub pairAt : BuilderFields → DateTime → Offset → Timestamp
-pairAt f t o = packedPair (wordOf (packedOf f t o)) f.attoseconds
+abbrev pub pair_at : BuilderFields → DateTime → Offset → Timestamp
+pair_at f t o = packed_pair (word_of (packed_of f t o)) f.attoseconds
 
-abbrev pub refusedBuild : ℕ → Built
-refusedBuild n = record { number = n; stamp = noStamp }
+abbrev pub refused_build : ℕ → Built
+refused_build n = record { number = n; stamp = no_stamp }
 
-abbrev pub acceptedBuild : Timestamp → Built
-acceptedBuild s = record { number = 0; stamp = s }
+abbrev pub accepted_build : Timestamp → Built
+accepted_build s = record { number = 0; stamp = s }
 
 -- 0 and the pair, or the number and (0, 0)
-abbrev pub buildAnswer : ℕ → Timestamp → Built
-buildAnswer n s = answered n (acceptedBuild s) refusedBuild
+abbrev pub build_answer : ℕ → Timestamp → Built
+build_answer n s = answered n (accepted_build s) refused_build
 
 -- ---- the whole
 
-unfoldable pub buildNumber : BuilderFields → ℕ
-buildNumber f = firstOf (rangeChecks f ++ routeChecks f f.offset)
+unfoldable pub build_number : BuilderFields → ℕ
+build_number f = first_of (range_checks f ++ route_checks f f.offset)
 
-unfoldable pub buildPair : BuilderFields → Timestamp
-buildPair f = pairAt f (localTime f f.offset) (toOffset f.offset)
+unfoldable pub build_pair : BuilderFields → Timestamp
+build_pair f = pair_at f (local_time f f.offset) (to_offset f.offset)
 
-unfoldable pub buildOf : BuilderFields → Built
-buildOf f = buildAnswer (buildNumber f) (buildPair f)
+unfoldable pub build_of : BuilderFields → Built
+build_of f = build_answer (build_number f) (build_pair f)

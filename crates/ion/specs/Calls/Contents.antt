@@ -14,26 +14,26 @@ pub record Contents (A : Type 0) : Type 0 where
   pub number : ℕ
 
 module _ {A : Type 0} where
-  abbrev pub contentsWith : List A → ℕ → Contents A
-  contentsWith l n = record { items = l; number = n }
+  abbrev pub contents_with : List A → ℕ → Contents A
+  contents_with l n = record { items = l; number = n }
 
   -- an item before what follows it
   abbrev pub before : A → Contents A → Contents A
-  before x c = contentsWith (x ∷ c.items) c.number
+  before x c = contents_with (x ∷ c.items) c.number
 
   -- what follows an item is looked at only where it is accepted; n items are read at most
-  unfoldable pub contentsFrom : Reader A → ℕ → List ℕ → Contents A
-  contentsFrom read zero s = contentsWith [] 0
-  contentsFrom read (suc n) [] = contentsWith [] 0
-  contentsFrom read (suc n) (b ∷ s) =
-      let more = contentsFrom read n (drop (read.taken (b ∷ s)) (b ∷ s)) in
-      answered (read.number (b ∷ s)) (before (read.item (b ∷ s)) more) (contentsWith [])
+  unfoldable pub contents_from : Reader A → ℕ → List ℕ → Contents A
+  contents_from read zero s = contents_with [] 0
+  contents_from read (suc n) [] = contents_with [] 0
+  contents_from read (suc n) (b ∷ s) =
+      let more = contents_from read n (drop (read.taken (b ∷ s)) (b ∷ s)) in
+      answered (read.number (b ∷ s)) (before (read.item (b ∷ s)) more) (contents_with [])
 
   -- there are no more items than bytes
   unfoldable pub contents : Reader A → List ℕ → Contents A
-  contents read s = contentsFrom read (length s) s
+  contents read s = contents_from read (length s) s
 
   -- the bytes of each item, one after another
-  unfoldable pub inTurn : (A → List ℕ) → List A → List ℕ
-  inTurn bytes [] = []
-  inTurn bytes (x ∷ l) = bytes x ++ inTurn bytes l
+  unfoldable pub in_turn : (A → List ℕ) → List A → List ℕ
+  in_turn bytes [] = []
+  in_turn bytes (x ∷ l) = bytes x ++ in_turn bytes l

@@ -1,11 +1,11 @@
 -- What is read from a timestamp, after its check. Assumes nothing.
 use Rattle.std.specs.Prelude.{ℕ, ◌/◌, ◌^◌, false, pos, neg_ℤ}
-use Rattle.ion.specs.Pair.Offset.{offsetOf}
-use Rattle.ion.specs.Pair.Word.{fieldsOf}
-use Rattle.ion.specs.Pair.Pair.{wordIn}
+use Rattle.ion.specs.Pair.Offset.{offset_of}
+use Rattle.ion.specs.Pair.Word.{fields_of}
+use Rattle.ion.specs.Pair.Pair.{word_in}
 use Rattle.ion.specs.Pair.Fraction.{scale}
 use Rattle.ion.specs.Calls.Answered.{answered}
-use Rattle.ion.specs.Calls.Check.{checkNumber}
+use Rattle.ion.specs.Calls.Check.{check_number}
 use Rattle.ion.specs.declared.Fields.{Fields}
 use Rattle.ion.specs.declared.Timestamp.{Timestamp}
 use Rattle.ion.specs.declared.Decimal.{Decimal}
@@ -17,74 +17,75 @@ use Rattle.ion.specs.declared.DecimalField.{DecimalField}
 
 -- ---- a number of 32 bits
 
-abbrev pub refusedField : ℕ → Field
-refusedField n = record { number = n; value = 0 }
+abbrev pub refused_field : ℕ → Field
+refused_field n = record { number = n; value = 0 }
 
 -- the value v of a timestamp
-unfoldable pub fieldOf : ℕ → Timestamp → Field
-fieldOf v s = answered (checkNumber s) (record { number = 0; value = v }) refusedField
+unfoldable pub field_of : ℕ → Timestamp → Field
+field_of v s = answered (check_number s) (record { number = 0; value = v }) refused_field
 
-abbrev pub yearOf : Timestamp → Field
-yearOf s = fieldOf (fieldsOf (wordIn s)).year s
+abbrev pub year_of : Timestamp → Field
+year_of s = field_of (fields_of (word_in s)).year s
 
-abbrev pub monthOf : Timestamp → Field
-monthOf s = fieldOf (fieldsOf (wordIn s)).month s
+abbrev pub month_of : Timestamp → Field
+month_of s = field_of (fields_of (word_in s)).month s
 
-abbrev pub dayOf : Timestamp → Field
-dayOf s = fieldOf (fieldsOf (wordIn s)).day s
+abbrev pub day_of : Timestamp → Field
+day_of s = field_of (fields_of (word_in s)).day s
 
-abbrev pub hourOf : Timestamp → Field
-hourOf s = fieldOf (fieldsOf (wordIn s)).hour s
+abbrev pub hour_of : Timestamp → Field
+hour_of s = field_of (fields_of (word_in s)).hour s
 
-abbrev pub minuteOf : Timestamp → Field
-minuteOf s = fieldOf (fieldsOf (wordIn s)).minute s
+abbrev pub minute_of : Timestamp → Field
+minute_of s = field_of (fields_of (word_in s)).minute s
 
-abbrev pub secondOf : Timestamp → Field
-secondOf s = fieldOf (fieldsOf (wordIn s)).second s
+abbrev pub second_of : Timestamp → Field
+second_of s = field_of (fields_of (word_in s)).second s
 
-abbrev pub precisionFieldOf : Timestamp → Field
-precisionFieldOf s = fieldOf (fieldsOf (wordIn s)).precision s
+abbrev pub precision_field_of : Timestamp → Field
+precision_field_of s = field_of (fields_of (word_in s)).precision s
 
 -- the number of fraction digits
-abbrev pub digitsFieldOf : Timestamp → Field
-digitsFieldOf s = fieldOf (fieldsOf (wordIn s)).digits s
+abbrev pub digits_field_of : Timestamp → Field
+digits_field_of s = field_of (fields_of (word_in s)).digits s
 
 -- the fraction in whole units of 10^k attoseconds
-abbrev pub unitsOf : ℕ → Timestamp → Field
-unitsOf k s = fieldOf (s.attoseconds / 10 ^ k) s
+abbrev pub units_of : ℕ → Timestamp → Field
+units_of k s = field_of (s.attoseconds / 10 ^ k) s
 
-abbrev pub nanosecondsOf : Timestamp → Field
-nanosecondsOf s = unitsOf 9 s
+abbrev pub nanoseconds_of : Timestamp → Field
+nanoseconds_of s = units_of 9 s
 
-abbrev pub microsecondsOf : Timestamp → Field
-microsecondsOf s = unitsOf 12 s
+abbrev pub microseconds_of : Timestamp → Field
+microseconds_of s = units_of 12 s
 
-abbrev pub millisecondsOf : Timestamp → Field
-millisecondsOf s = unitsOf 15 s
+abbrev pub milliseconds_of : Timestamp → Field
+milliseconds_of s = units_of 15 s
 
 -- ---- the whole fraction, the offset, and the fraction as a decimal
 
-abbrev pub refusedAttoseconds : ℕ → Attoseconds
-refusedAttoseconds n = record { number = n; value = 0 }
+abbrev pub refused_attoseconds : ℕ → Attoseconds
+refused_attoseconds n = record { number = n; value = 0 }
 
-unfoldable pub attosecondsFieldOf : Timestamp → Attoseconds
-attosecondsFieldOf s = answered (checkNumber s) (record { number = 0; value = s.attoseconds }) refusedAttoseconds
+unfoldable pub attoseconds_field_of : Timestamp → Attoseconds
+attoseconds_field_of s = answered (check_number s) (record { number = 0; value = s.attoseconds }) refused_attoseconds
 
-abbrev pub refusedOffset : ℕ → OffsetField
-refusedOffset n = record { number = n; value = Unknown }
+abbrev pub refused_offset : ℕ → OffsetField
+refused_offset n = record { number = n; value = Unknown }
 
-unfoldable pub offsetFieldOf : Timestamp → OffsetField
-offsetFieldOf s = answered (checkNumber s) (record { number = 0; value = offsetOf (fieldsOf (wordIn s)).offset }) refusedOffset
+unfoldable pub offset_field_of : Timestamp → OffsetField
+offset_field_of s = answered (check_number s) (record { number = 0; value = offset_of (fields_of (word_in s)).offset }) refused_offset
 
 -- its digits as the coefficient, and minus their number as the exponent
-abbrev pub decimalIn : Fields → ℕ → Decimal
-decimalIn f a = record { negative = false; coefficient = a / scale f.digits; exponent = neg_ℤ (pos f.digits) }
+abbrev pub decimal_in : Fields → ℕ → Decimal
+decimal_in f a = record { negative = false; coefficient = a / scale f.digits; exponent = neg_ℤ (pos f.digits) }
 
-abbrev pub zeroDecimal : Decimal
-zeroDecimal = record { negative = false; coefficient = 0; exponent = pos 0 }
+abbrev pub zero_decimal : Decimal
+zero_decimal = record { negative = false; coefficient = 0; exponent = pos 0 }
 
-abbrev pub refusedDecimal : ℕ → DecimalField
-refusedDecimal n = record { number = n; value = zeroDecimal }
+abbrev pub refused_decimal : ℕ → DecimalField
+refused_decimal n = record { number = n; value = zero_decimal }
 
-unfoldable pub decimalFieldOf : Timestamp → DecimalField
-decimalFieldOf s = answered (checkNumber s) (record { number = 0; value = decimalIn (fieldsOf (wordIn s)) s.attoseconds }) refusedDecimal
+unfoldable pub decimal_field_of : Timestamp → DecimalField
+decimal_field_of s =
+    answered (check_number s) (record { number = 0; value = decimal_in (fields_of (word_in s)) s.attoseconds }) refused_decimal

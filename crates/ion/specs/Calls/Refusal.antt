@@ -2,89 +2,89 @@
 use Rattle.std.specs.Prelude.{ℕ}
 
 -- fraction below 0, or 1 and above
-abbrev pub fractionRefused : ℕ
-fractionRefused = 1
+abbrev pub fraction_refused : ℕ
+fraction_refused = 1
 
 -- year given above 9999
-abbrev pub yearRefused : ℕ
-yearRefused = 2
+abbrev pub year_refused : ℕ
+year_refused = 2
 
 -- month above 12
-abbrev pub monthRefused : ℕ
-monthRefused = 3
+abbrev pub month_refused : ℕ
+month_refused = 3
 
 -- day above 31
-abbrev pub dayRefused : ℕ
-dayRefused = 4
+abbrev pub day_refused : ℕ
+day_refused = 4
 
 -- hour above 23
-abbrev pub hourRefused : ℕ
-hourRefused = 5
+abbrev pub hour_refused : ℕ
+hour_refused = 5
 
 -- minute above 59
-abbrev pub minuteRefused : ℕ
-minuteRefused = 6
+abbrev pub minute_refused : ℕ
+minute_refused = 6
 
 -- second above 59
-abbrev pub secondRefused : ℕ
-secondRefused = 7
+abbrev pub second_refused : ℕ
+second_refused = 7
 
 -- more than 18 fraction digits
-abbrev pub digitsRefused : ℕ
-digitsRefused = 8
+abbrev pub digits_refused : ℕ
+digits_refused = 8
 
 -- known offset outside -1439..1439 minutes
-abbrev pub offsetRefused : ℕ
-offsetRefused = 9
+abbrev pub offset_refused : ℕ
+offset_refused = 9
 
 -- month or finer, and no such calendar day (month 0 and day 0 included)
-abbrev pub noDay : ℕ
-noDay = 10
+abbrev pub no_day : ℕ
+no_day = 10
 
 -- local year below 1 or above 9999
-abbrev pub localYearRefused : ℕ
-localYearRefused = 11
+abbrev pub local_year_refused : ℕ
+local_year_refused = 11
 
 -- packed pair the builder never gives
-abbrev pub pairRefused : ℕ
-pairRefused = 12
+abbrev pub pair_refused : ℕ
+pair_refused = 12
 
 -- input ends inside a value, or inside a scan
-abbrev pub inputEnds : ℕ
-inputEnds = 13
+abbrev pub input_ends : ℕ
+input_ends = 13
 
 -- first byte not 60 to 6E hexadecimal
-abbrev pub firstByteRefused : ℕ
-firstByteRefused = 14
+abbrev pub first_byte_refused : ℕ
+first_byte_refused = 14
 
 -- body or length not a stamp's
-abbrev pub bodyRefused : ℕ
-bodyRefused = 15
+abbrev pub body_refused : ℕ
+body_refused = 15
 
 -- buffer shorter than the output
-abbrev pub shortBuffer : ℕ
-shortBuffer = 16
+abbrev pub short_buffer : ℕ
+short_buffer = 16
 
 -- program input above 65,536 bytes
-abbrev pub longInput : ℕ
-longInput = 17
+abbrev pub long_input : ℕ
+long_input = 17
 
 -- text in none of the forms
-abbrev pub formBroken : ℕ
-formBroken = 18
+abbrev pub form_broken : ℕ
+form_broken = 18
 
 -- number of a scan padded, without an end mark in five bytes, or above 4,294,967,295
-abbrev pub numberRefused : ℕ
-numberRefused = 19
+abbrev pub number_refused : ℕ
+number_refused = 19
 
 -- fewer words than the report needs
-abbrev pub wordsRefused : ℕ
-wordsRefused = 20
+abbrev pub words_refused : ℕ
+words_refused = 20
 
 -- W above 86,400 seconds
-abbrev pub windowRefused : ℕ
-windowRefused = 21
+abbrev pub window_refused : ℕ
+window_refused = 21
 
 -- a 257th tag
-abbrev pub tagsRefused : ℕ
-tagsRefused = 22
+abbrev pub tags_refused : ℕ
+tags_refused = 22

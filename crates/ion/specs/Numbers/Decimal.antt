@@ -4,5 +4,5 @@ use Rattle.ion.specs.Numbers.VarInt.{varint}
 use Rattle.ion.specs.Numbers.Int.{int}
 
 -- zero with exponent 0 is no bytes
-unfoldable pub decimalBytes : ℕ → ℤ → List ℕ
-decimalBytes c e = cond (eqb c 0 && eqb (nat_abs e) 0) [] (varint e ++ int c)
+unfoldable pub decimal_bytes : ℕ → ℤ → List ℕ
+decimal_bytes c e = cond (eqb c 0 && eqb (nat_abs e) 0) [] (varint e ++ int c)

@@ -8,45 +8,45 @@ abbrev pub scale : ℕ → ℕ
 scale digits = 10 ^ (18 - digits)
 
 -- attoseconds cut toward zero to a number of digits; past the eighteenth there is nothing to cut
-abbrev pub cutTo : ℕ → ℕ → ℕ
-cutTo digits a = a / scale digits * scale digits
+abbrev pub cut_to : ℕ → ℕ → ℕ
+cut_to digits a = a / scale digits * scale digits
 
 -- a second or more is kept as 10^18, which check 1 refuses
 unfoldable pub capped : ℕ → ℕ
 capped v = min v (10 ^ 18)
 
-abbrev pub cappedFraction : ℕ → ℕ → Fraction
-cappedFraction a digits = record { attoseconds = capped a; digits = digits }
+abbrev pub capped_fraction : ℕ → ℕ → Fraction
+capped_fraction a digits = record { attoseconds = capped a; digits = digits }
 
 abbrev pub milliseconds : ℕ → Fraction
-milliseconds n = cappedFraction (n * scale 3) 3
+milliseconds n = capped_fraction (n * scale 3) 3
 
 abbrev pub microseconds : ℕ → Fraction
-microseconds n = cappedFraction (n * scale 6) 6
+microseconds n = capped_fraction (n * scale 6) 6
 
 abbrev pub nanoseconds : ℕ → Fraction
-nanoseconds n = cappedFraction (n * scale 9) 9
+nanoseconds n = capped_fraction (n * scale 9) 9
 
 -- cut toward zero to a number of digits
-abbrev pub nanosecondsTo : ℕ → ℕ → Fraction
-nanosecondsTo n digits = cappedFraction (cutTo digits (n * scale 9)) digits
+abbrev pub nanoseconds_to : ℕ → ℕ → Fraction
+nanoseconds_to n digits = capped_fraction (cut_to digits (n * scale 9)) digits
 
 -- minus the exponent, or none where that is 0 or more
-abbrev pub digitsOf : ℤ → ℕ
-digitsOf (pos n) = 0
-digitsOf (negsuc n) = suc n
+abbrev pub digits_of : ℤ → ℕ
+digits_of (pos n) = 0
+digits_of (negsuc n) = suc n
 
 -- a 64-bit coefficient times 10^-digits, in attoseconds: those past the eighteenth digit are dropped, and from 38 digits on that is
--- all of it. An exponent above 0 only makes a second or more larger. `attoseconds-exact` and `decimal-exact` of crate fraction say so.
-abbrev pub attosecondsOf : ℕ → ℕ → ℕ
-attosecondsOf c digits = c * 10 ^ 18 / 10 ^ min digits 38
+-- all of it. An exponent above 0 only makes a second or more larger. `attoseconds_exact` and `decimal_exact` of crate fraction say so.
+abbrev pub attoseconds_of : ℕ → ℕ → ℕ
+attoseconds_of c digits = c * 10 ^ 18 / 10 ^ min digits 38
 
 -- negative zero is zero
-abbrev pub belowZero : Decimal → Bool
-belowZero d = d.negative && not (eqb d.coefficient 0)
+abbrev pub below_zero : Decimal → Bool
+below_zero d = d.negative && not (eqb d.coefficient 0)
 
 -- a decimal below zero is kept as 10^18 too
 abbrev pub decimal : Decimal → Fraction
 decimal d =
-    let digits = digitsOf d.exponent in
-    cappedFraction (cond (belowZero d) (10 ^ 18) (attosecondsOf d.coefficient digits)) digits
+    let digits = digits_of d.exponent in
+    capped_fraction (cond (below_zero d) (10 ^ 18) (attoseconds_of d.coefficient digits)) digits

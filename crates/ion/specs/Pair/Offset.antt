@@ -6,28 +6,28 @@ use Rattle.ion.specs.declared.offset.OffsetMinutes.{OffsetMinutes}
 use Rattle.ion.specs.declared.offset.Offset.{Offset}
 use Rattle.ion.specs.declared.offset.Offset.TheVariants.{Unknown, Known}
 
-abbrev pub offsetMinutes : ℤ → OffsetMinutes
-offsetMinutes z = record { 0 = z }
+abbrev pub offset_minutes : ℤ → OffsetMinutes
+offset_minutes z = record { 0 = z }
 
-abbrev pub rawOffset : ℕ → RawOffset
-rawOffset n = record { 0 = n }
+abbrev pub raw_offset : ℕ → RawOffset
+raw_offset n = record { 0 = n }
 
 -- 0 for unknown, else minutes plus 1,440
-abbrev pub rawOf : Offset → RawOffset
-rawOf Unknown = rawOffset 0
-rawOf (Known m) = rawOffset (1440 plus m.0)
+abbrev pub raw_of : Offset → RawOffset
+raw_of Unknown = raw_offset 0
+raw_of (Known m) = raw_offset (1440 plus m.0)
 
-abbrev pub offsetOf : RawOffset → Offset
-offsetOf r = cond (eqb r.0 0) Unknown (Known (offsetMinutes (pos r.0 -ℤ pos 1440)))
+abbrev pub offset_of : RawOffset → Offset
+offset_of r = cond (eqb r.0 0) Unknown (Known (offset_minutes (pos r.0 -ℤ pos 1440)))
 
 -- the minutes to subtract for UTC: none where the offset is unknown
-abbrev pub minutesOf : Offset → ℤ
-minutesOf Unknown = pos 0
-minutesOf (Known m) = m.0
+abbrev pub minutes_of : Offset → ℤ
+minutes_of Unknown = pos 0
+minutes_of (Known m) = m.0
 
 -- a known offset is -1439 to 1439 minutes
-abbrev pub isOffset : ℤ → Bool
-isOffset z = ltb (nat_abs z) 1440
+abbrev pub is_offset : ℤ → Bool
+is_offset z = ltb (nat_abs z) 1440
 
 abbrev pub WithinDay : Offset → Type 0
 WithinDay Unknown = Unit

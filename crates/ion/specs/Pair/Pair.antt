@@ -3,15 +3,15 @@ use Rattle.std.specs.Prelude.{ℕ, Bool, ◌&&◌, eqb}
 use Rattle.ion.specs.declared.Timestamp.{Timestamp}
 
 -- the packed word
-abbrev pub wordIn : Timestamp → ℕ
-wordIn s = s.packed_fields
+abbrev pub word_in : Timestamp → ℕ
+word_in s = s.packed_fields
 
-abbrev pub packedPair : ℕ → ℕ → Timestamp
-packedPair w a = record { packed_fields = w; attoseconds = a }
+abbrev pub packed_pair : ℕ → ℕ → Timestamp
+packed_pair w a = record { packed_fields = w; attoseconds = a }
 
 -- what a refusal hands out
-abbrev pub noStamp : Timestamp
-noStamp = packedPair 0 0
+abbrev pub no_stamp : Timestamp
+no_stamp = packed_pair 0 0
 
-abbrev pub samePair : Timestamp → Timestamp → Bool
-samePair s t = eqb (wordIn s) (wordIn t) && eqb s.attoseconds t.attoseconds
+abbrev pub same_pair : Timestamp → Timestamp → Bool
+same_pair s t = eqb (word_in s) (word_in t) && eqb s.attoseconds t.attoseconds

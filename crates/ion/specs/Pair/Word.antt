@@ -2,18 +2,18 @@
 -- Assumes nothing.
 use Rattle.std.specs.Prelude.{ℕ, List, [], ◌∷◌, get_or}
 use Rattle.ion.specs.Pair.Layout.{join, parts, Within}
-use Rattle.ion.specs.Pair.Offset.{rawOffset}
+use Rattle.ion.specs.Pair.Offset.{raw_offset}
 use Rattle.ion.specs.declared.Fields.{Fields}
 
 -- high to low; the last width is that of the four zero bits
 abbrev pub widths : List ℕ
 widths = 14 ∷ 4 ∷ 5 ∷ 5 ∷ 6 ∷ 6 ∷ 3 ∷ 5 ∷ 12 ∷ 4 ∷ []
 
-abbrev pub valuesOf : Fields → List ℕ
-valuesOf f = f.year ∷ f.month ∷ f.day ∷ f.hour ∷ f.minute ∷ f.second ∷ f.precision ∷ f.digits ∷ f.offset.0 ∷ 0 ∷ []
+abbrev pub values_of : Fields → List ℕ
+values_of f = f.year ∷ f.month ∷ f.day ∷ f.hour ∷ f.minute ∷ f.second ∷ f.precision ∷ f.digits ∷ f.offset.0 ∷ 0 ∷ []
 
-abbrev pub fromValues : List ℕ → Fields
-fromValues l =
+abbrev pub from_values : List ℕ → Fields
+from_values l =
     record {
       year = get_or l 0 0;
       month = get_or l 1 0;
@@ -23,16 +23,16 @@ fromValues l =
       second = get_or l 5 0;
       precision = get_or l 6 0;
       digits = get_or l 7 0;
-      offset = rawOffset (get_or l 8 0);
+      offset = raw_offset (get_or l 8 0);
     }
 
 -- each field has no more bits than its place
 abbrev pub InRange : Fields → Type 0
-InRange f = Within widths (valuesOf f)
+InRange f = Within widths (values_of f)
 
 -- the word of the fields, and the fields of a word
-unfoldable pub wordOf : Fields → ℕ
-wordOf f = join widths (valuesOf f)
+unfoldable pub word_of : Fields → ℕ
+word_of f = join widths (values_of f)
 
-unfoldable pub fieldsOf : ℕ → Fields
-fieldsOf w = fromValues (parts widths w)
+unfoldable pub fields_of : ℕ → Fields
+fields_of w = from_values (parts widths w)

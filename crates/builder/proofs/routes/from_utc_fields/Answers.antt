@@ -2,16 +2,16 @@
 use Rattle.std.proofs.Common.{sym, ◌∙◌, arith}
 use Rattle.ion.specs.Calendar.Shift.{IsDateTime}
 use Rattle.ion.specs.declared.offset.Offset.TheVariants.{Known}
-use Rattle.calendar.proofs.Shifts.{shifted-is}
-use Rattle.builder.proofs.Bounds.{year-decides}
-use Rattle.builder.proofs.Times.{time-is, time-in-range}
+use Rattle.calendar.proofs.Shifts.{shifted_is}
+use Rattle.builder.proofs.Bounds.{year_decides}
+use Rattle.builder.proofs.Times.{time_is, time_in_range}
 use Rattle.builder.proofs.routes.from_utc_fields.Goals as goal
 
 pub finish-requires : goal.finish-requires
 finish-requires c =
     let f = c.args.f in
     let t = c.add_offset_to_utc-local.result in
-    let g = time-is f c.requires.0 (sym c.is_day.ensures ∙ c.if-not-is_day.false) in
-    let p : IsDateTime t = rw (c.add_offset_to_utc-local.ensures, c.given_time.ensures) (shifted-is _ _ g) in
-    let y = (year-decides t.year).0 (sym c.is_year.ensures ∙ c.if-not-is_year.false) in
-    (c.requires.1, time-in-range f t (Known c.args.m) c.requires.0 p (omega arith) c.requires.1)
+    let g = time_is f c.requires.0 (sym c.is_day.ensures ∙ c.if-not-is_day.false) in
+    let p : IsDateTime t = rw (c.add_offset_to_utc-local.ensures, c.given_time.ensures) (shifted_is _ _ g) in
+    let y = (year_decides t.year).0 (sym c.is_year.ensures ∙ c.if-not-is_year.false) in
+    (c.requires.1, time_in_range f t (Known c.args.m) c.requires.0 p (omega arith) c.requires.1)

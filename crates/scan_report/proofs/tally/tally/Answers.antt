@@ -1,7 +1,7 @@
 -- `tally` meets its contract.
 use Rattle.std.proofs.Common.{◌∙◌, ◌<◌, ◌^◌, length, rules, arith}
-use Rattle.scan_report.proofs.Tallying.{start, finish, finish-last, stop, stop-last, stop-full}
-use Rattle.scan_report.proofs.Tallying.{full-last, accepted, within, less, next-by, bounded}
+use Rattle.scan_report.proofs.Tallying.{start, finish, finish_last, stop, stop_last, stop_full}
+use Rattle.scan_report.proofs.Tallying.{full_last, accepted, within, less, next_by, bounded}
 use Rattle.scan_report.proofs.tally.tally.Goals as goal
 
 pub loop-at-init : goal.loop-at-init
@@ -13,17 +13,17 @@ returns-then-number-ne0-clause-report c =
 
 pub returns-then-number-ne0-clause-last : goal.returns-then-number-ne0-clause-last
 returns-then-number-ne0-clause-last c z =
-    absurd (stop-last c.loop-at.invariant c.read_scan-r.ensures c.loop-at-test.true c.if-number-ne0.true z)
+    absurd (stop_last c.loop-at.invariant c.read_scan-r.ensures c.loop-at-test.true c.if-number-ne0.true z)
 
 pub returns-then-place-ge-TAG_COUNT-clause-report : goal.returns-then-place-ge-TAG_COUNT-clause-report
 returns-then-place-ge-TAG_COUNT-clause-report c =
     c.refused-then-place-ge-TAG_COUNT.ensures
-    ∙ stop-full c.loop-at.invariant c.read_scan-r.ensures c.if-number-ne0.false c.place-place.ensures c.if-place-ge-TAG_COUNT.true
+    ∙ stop_full c.loop-at.invariant c.read_scan-r.ensures c.if-number-ne0.false c.place-place.ensures c.if-place-ge-TAG_COUNT.true
 
 pub returns-then-place-ge-TAG_COUNT-clause-last : goal.returns-then-place-ge-TAG_COUNT-clause-last
 returns-then-place-ge-TAG_COUNT-clause-last c z =
     absurd
-    (full-last c.loop-at.invariant c.read_scan-r.ensures c.if-number-ne0.false c.place-place.ensures c.if-place-ge-TAG_COUNT.true z)
+    (full_last c.loop-at.invariant c.read_scan-r.ensures c.if-number-ne0.false c.place-place.ensures c.if-place-ge-TAG_COUNT.true z)
 
 pub take_scan-kind-requires-clause-accepted : goal.take_scan-kind-requires-clause-accepted
 take_scan-kind-requires-clause-accepted c =
@@ -43,12 +43,12 @@ loop-at-smaller c = less c.loop-at.invariant c.read_scan-r.ensures c.if-number-n
 
 pub loop-at-preserved : goal.loop-at-preserved
 loop-at-preserved c =
-    next-by c.loop-at.invariant c.read_scan-r.ensures c.if-number-ne0.false c.place-place.ensures c.if-place-ge-TAG_COUNT.false
+    next_by c.loop-at.invariant c.read_scan-r.ensures c.if-number-ne0.false c.place-place.ensures c.if-place-ge-TAG_COUNT.false
     c.take_scan-kind.ensures.kind c.counted-counts.ensures c.take_scan-kind.ensures.last
 
 pub returns : goal.returns
 returns c =
     record {
       report = finish c.loop-at.invariant c.loop-at-test.false;
-      last = λ z. finish-last c.loop-at.invariant c.loop-at-test.false;
+      last = λ z. finish_last c.loop-at.invariant c.loop-at-test.false;
     }

@@ -1,30 +1,30 @@
 -- `text_formatter::put_digits` meets its contract.
 use Rattle.std.proofs.Common.{inl, inr, arith}
 use lib.Dec.{lit<}
-use Rattle.text.proofs.Digits.{length-padded}
-use Rattle.text.proofs.Padding.{padding-some, padding-within, padding-next, padding-all}
+use Rattle.text.proofs.Digits.{length_padded}
+use Rattle.text.proofs.Padding.{padding_some, padding_within, padding_next, padding_all}
 use Rattle.text.proofs.text_formatter.put_digits.Goals as goal
 use Rattle.text.proofs.text_formatter.put_digits.Goals.{else-width-end-via-then-width-end+else-q-eq0, else-width-end-via-else-width-end}
 
 pub overflow_sub-i : goal.overflow_sub-i
-overflow_sub-i c = omega (arith, padding-some (lit< tt) c.loop-i.invariant)
+overflow_sub-i c = omega (arith, padding_some (lit< tt) c.loop-i.invariant)
 
 pub bounds-buf-i : goal.bounds-buf-i
-bounds-buf-i c = omega (arith, padding-some (lit< tt) c.loop-i.invariant, padding-within (lit< tt) c.loop-i.invariant)
+bounds-buf-i c = omega (arith, padding_some (lit< tt) c.loop-i.invariant, padding_within (lit< tt) c.loop-i.invariant)
 
 pub returns-then-q-eq0 : goal.returns-then-q-eq0
 returns-then-q-eq0 c =
     record {
-      bytes = padding-all (lit< tt) c.loop-i.invariant c.if-width-end.true c.if-q-eq0.true;
-      next = omega (arith, c.loop-i.invariant.ends, length-padded c.args.width c.args.value);
+      bytes = padding_all (lit< tt) c.loop-i.invariant c.if-width-end.true c.if-q-eq0.true;
+      next = omega (arith, c.loop-i.invariant.ends, length_padded c.args.width c.args.value);
     }
 
 pub loop-i-smaller : goal.loop-i-smaller
-loop-i-smaller c = omega (arith, padding-some (lit< tt) c.loop-i.invariant)
+loop-i-smaller c = omega (arith, padding_some (lit< tt) c.loop-i.invariant)
 
 pub loop-i-preserved : goal.loop-i-preserved
 loop-i-preserved c =
-    padding-next (lit< tt) c.loop-i.invariant
+    padding_next (lit< tt) c.loop-i.invariant
     (elim c.else-width-end.branch [
       | else-width-end-via-then-width-end+else-q-eq0 w ↦ inr w.if-q-eq0.false
       | else-width-end-via-else-width-end w ↦ inl w.if-width-end.false
