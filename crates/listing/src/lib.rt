@@ -1,7 +1,7 @@
 // The lines that the program `stamps` prints for an input.
 #![tactic(auto)]
 
-ghost use Rattle.std.specs.Prelude.{◌+◌, ◌*◌, ◌≤◌, ◌<◌, ◌≡◌, length, IfOk, OnOk, IfSome};
+ghost use Rattle.std.specs.Prelude.{◌+◌, ◌*◌, ◌≤◌, ◌<◌, ◌≡◌, length, take, IfOk, OnOk, IfSome};
 ghost use Rattle.std.specs.Io.KnownBytes.{Appends};
 ghost use Rattle.ion.specs.Calls.Accepted.{Accepted};
 ghost use Rattle.ion.specs.Calls.Output.{Run};
@@ -9,7 +9,6 @@ ghost use Rattle.ion.specs.Calls.Stamps.{line_of, stop_line, output_of};
 ghost use Rattle.ion.specs.Text.Format.{text_of};
 
 use ion::{Timestamp, refusal};
-use std::alloc::Global;
 use std::io::{self, Read, Write};
 use text::text_formatter;
 
@@ -63,28 +62,38 @@ pub fn list(input: &[u8], buf: &mut [u8]) -> usize
     end
 }
 
-// Reads what decides the output: the input, or of a longer one the first bytes, one more than an input may have.
-fn read_input<R: Read>(alloc: Global, reader: R) -> io::Result<Vec<u8>>
-where
-    R: Drop,
-    ensures bytes { IfOk result (λ v. IfSome (R.remaining reader) (λ xs. output_of v.items ≡ output_of xs)) }
-    ensures bound { IfOk result (λ v. length v.items ≤ 65537) }
+// An input may have 65,536 bytes: one more shows that it is longer.
+fn input_room() -> [u8; 65_537]
+    ensures { 65_537 ≡ length result }
 {
-    let most = MAX_INPUT + 1;
-    let mut input = Vec::new(alloc);
-    reader.take(most as u64).read_to_end(&mut input)?;
-    input.truncate(most);
-    Ok(input)
+    input::zeros()
+}
+
+// What `list` asks for so many.
+fn output_room() -> [u8; 983_063]
+    ensures { 983_063 ≡ length result }
+{
+    input::zeros()
+}
+
+// Reads what decides the output into `buf`, which an input may not fill: the input, or of a longer one the first bytes.
+fn read_input<R: Read>(reader: &mut R, buf: &mut [u8]) -> io::Result<usize>
+    requires { 65537 ≡ length buf.old }
+    ensures size { 65537 ≡ length buf.new }
+    ensures bound { IfOk result (λ n. n ≤ length buf.new) }
+    ensures bytes { IfOk result (λ n. IfSome (R.remaining reader.old) (λ xs. output_of (take n buf.new) ≡ output_of xs)) }
+{
+    let n = input::read_full(reader, buf)?;
+    Ok(n)
 }
 
 // Writes the listing of all that `reader` gives.
-pub fn run<R: Read, W: Write>(alloc: Global, reader: R, writer: &mut W) -> io::Result<()>
-where
-    R: Drop,
-    ensures { OnOk result (IfSome (R.remaining reader) (λ xs. Appends (W.contents writer.old) (W.contents writer.new) (output_of xs))) }
+pub fn run<R: Read, W: Write>(reader: &mut R, writer: &mut W) -> io::Result<()>
+    ensures { OnOk result (IfSome (R.remaining reader.old) (λ xs. Appends (W.contents writer.old) (W.contents writer.new) (output_of xs))) }
 {
-    let input = read_input(alloc, reader)?;
-    let mut output = vec![in alloc; 0u8; 15 * input.len() + 8]?;
-    let end = list(&input, &mut output);
+    let mut input = input_room();
+    let n = read_input(reader, &mut input)?;
+    let mut output = output_room();
+    let end = list(&input[..n], &mut output);
     writer.write_all(&output[..end])
 }

@@ -4,5 +4,5 @@
 use std::io;
 
 fn main(rt: HostRuntime) -> io::Result<()> {
-    listing::run(rt.alloc(), rt.reader(), &mut io::writer(&rt))
+    listing::run(&mut rt.reader(), &mut io::writer(&rt))
 }

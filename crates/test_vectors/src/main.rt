@@ -6,17 +6,23 @@ mod lines;
 mod records;
 mod replay;
 
-use std::io::{self, Read};
+ghost use Rattle.std.specs.Prelude.{◌≡◌, length};
+
+use std::io;
 
 // A file has fewer bytes than this: a longer one is taken for broken.
-const INPUT_LIMIT: usize = 262_144;
+fn input_room() -> [u8; 262_144]
+    ensures { 262_144 ≡ length result }
+{
+    input::zeros()
+}
 
 fn main(rt: HostRuntime) -> io::Result<()> {
-    let mut file = Vec::new(rt.alloc());
-    rt.reader().take(INPUT_LIMIT as u64).read_to_end(&mut file)?;
+    let mut file = input_room();
+    let n = input::read_full(&mut rt.reader(), &mut file)?;
     let mut out = io::writer(&rt);
-    if file.len() >= INPUT_LIMIT {
+    if n == 262_144 {
         return lines::print_broken(&mut out, 0);
     }
-    replay::replay(&mut out, &file)
+    replay::replay(&mut out, &file[..n])
 }

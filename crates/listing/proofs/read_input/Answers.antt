@@ -1,8 +1,9 @@
 -- `read_input` meets its contract.
-use Rattle.listing.proofs.Inputs.{input_cut}
+use Rattle.std.proofs.Common.{sym, ◌∙◌}
+use Rattle.listing.proofs.Inputs.{input_read}
 use Rattle.listing.proofs.read_input.Goals as goal
 
 pub returns-clause-bytes : goal.returns-clause-bytes
 returns-clause-bytes g c =
-    input_cut c.read_to_end.new.buf.items c.truncate.ensures.items g.R.Read.remaining c.take.ensures.limit c.take.ensures.inner
-    (rw c.new-input.ensures.items at c.in_ok-read_to_end.ensures.bytes)
+    let p = c.in_ok-n.ensures in
+    input_read c.read_full.new.buf c.in_ok-n.n (c.requires ∙ sym p.size) p.bound _ _ p.bytes p.end

@@ -1,0 +1,2 @@
+-- What a read adds to a buffer.
+pub mod Parts
