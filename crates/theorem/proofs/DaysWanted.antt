@@ -67,9 +67,9 @@ pub days_wanted : DaysWanted
 days_wanted =
     record {
       zero_exact = λ y m. (zero_unanswered y m, unanswered_zero y m);
-      is_date_lem = λ t e. let p = is_date_lem t e in (p.first, own_month t p);
-      next_day_lem = λ t p. (own_month t p, (next_day_lem t p).0);
-      prev_day_lem = λ t p. (month_before t p, (prev_day_lem t p).0);
+      tested = λ t e. let p = is_date_lem t e in (p.first, own_month t p);
+      day_after = λ t p. (own_month t p, (next_day_lem t p).0);
+      day_before = λ t p. (month_before t p, (prev_day_lem t p).0);
       days_added = λ t z p. (add_days_lem t z p).0;
       minutes_added = shifted_is;
       built = λ f m b e. shifted_is _ m.0 (time_is f b e);

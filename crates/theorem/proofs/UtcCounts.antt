@@ -22,7 +22,7 @@ has_first_values : {f : Fields} {a : ℕ} → Valid f a → f ≡ with_first_val
 has_first_values {f} v =
     let p = f.precision in
     let month = given_same 1 p f.month 1 v.no_month in
-    let day = given_same 2 p f.day 1 v.no_day_lem in
+    let day = given_same 2 p f.day 1 v.no_day in
     let hour = given_same 3 p f.hour 0 v.no_hour in
     let minute = given_same 3 p f.minute 0 v.no_minute in
     let second = given_same 4 p f.second 0 v.no_second in

@@ -30,10 +30,10 @@ pub record DaysWanted : Type 0 where
   -- the picker is told 0 there and nowhere else
   pub zero_exact : (y m : ℕ) → (days_in_month y m ≡ 0 → Unanswered y m) × (Unanswered y m → days_in_month y m ≡ 0)
   -- `is_date` says yes only to a day from 1 on, of a month that has days
-  pub is_date_lem : (t : Date) → is_date t ≡ true → (1 ≤ t.day) × HasDays t.year t.month
+  pub tested : (t : Date) → is_date t ≡ true → (1 ≤ t.day) × HasDays t.year t.month
   -- `next_day` asks the length of the date's month, `prev_day` after a first of the month that of the month before; both give dates
-  pub next_day_lem : (t : Date) → IsDate t → HasDays t.year t.month × IsDate (next_day t)
-  pub prev_day_lem : (t : Date) → IsDate t → (1 < t.month → HasDays t.year (t.month - 1)) × IsDate (prev_day t)
+  pub day_after : (t : Date) → IsDate t → HasDays t.year t.month × IsDate (next_day t)
+  pub day_before : (t : Date) → IsDate t → (1 < t.month → HasDays t.year (t.month - 1)) × IsDate (prev_day t)
   -- however many days and minutes a date is moved, it is a date: its day is never 0
   pub days_added : (t : Date) (z : ℤ) → IsDate t → IsDate (add_days t z)
   pub minutes_added : (t : DateTime) (z : ℤ) → IsDateTime t → IsDateTime (shifted t z)

@@ -91,7 +91,7 @@ all_valid f a (((((((((((y, z), h), mi), s), p), n), o), (((mo, d), t), u)), l),
       attoseconds = l;
       multiple = m;
       no_month = mo;
-      no_day_lem = d;
+      no_day = d;
       no_hour = λ k. (t k).0.0;
       no_minute = λ k. (t k).0.1;
       no_offset = λ k. (t k).1;
@@ -103,7 +103,7 @@ valid_all : (f : Fields) (a : ℕ) → Valid f a → All f a
 valid_all f a v =
     let b : Bounds f = (((((((v.from_year, v.to_year), v.hour), v.minute), v.second), v.precision), v.digits), v.offset) in
     let i : First f = (
-      ((v.no_month, v.no_day_lem), λ k. ((v.no_hour k, v.no_minute k), v.no_offset k)),
+      ((v.no_month, v.no_day), λ k. ((v.no_hour k, v.no_minute k), v.no_offset k)),
       λ k. (v.no_second k, v.no_digits k),
     ) in
     ((((b, i), v.attoseconds), v.date), v.multiple)

@@ -118,12 +118,12 @@ module _ (x : Body) (p : Encodable x) where
       let hour = p.no_hour (omega arith) in
       let minute = p.no_minute (omega arith) in
       let second = p.no_second (omega arith) in
-      record { all = rw (p.no_month (omega arith), p.no_day_lem (omega arith), hour, minute, second); counted = refl; number = omega arith }
+      record { all = rw (p.no_month (omega arith), p.no_day (omega arith), hour, minute, second); counted = refl; number = omega arith }
   restored_at (suc zero) e =
       let hour = p.no_hour (omega arith) in
       let minute = p.no_minute (omega arith) in
       let second = p.no_second (omega arith) in
-      record { all = rw (p.no_day_lem (omega arith), hour, minute, second); counted = refl; number = omega arith }
+      record { all = rw (p.no_day (omega arith), hour, minute, second); counted = refl; number = omega arith }
   restored_at (suc (suc zero)) e =
       let hour = p.no_hour (omega arith) in
       let minute = p.no_minute (omega arith) in

@@ -165,7 +165,7 @@ record LeftOut (l : List ℕ) (u : Fields) : Type 0 where
   precise : u.precision ≤ 4
   fewer : u.precision < 4 → length l < 6
   no_month : u.precision < 1 → u.month ≡ 1
-  no_day_lem : u.precision < 2 → u.day ≡ 1
+  no_day : u.precision < 2 → u.day ≡ 1
   no_hour : u.precision < 3 → u.hour ≡ 0
   no_minute : u.precision < 3 → u.minute ≡ 0
   no_second : u.precision < 4 → u.second ≡ 0
@@ -216,7 +216,7 @@ module _ {s : List ℕ} {o : Offset} {a l t : List ℕ} (w : OffsetIs s o a) (p 
               precise = u.precise;
               small = fields_small (filled l) (precision_with (length l)) d (filled_small l p.small);
               no_month = u.no_month;
-              no_day_lem = u.no_day_lem;
+              no_day = u.no_day;
               no_hour = u.no_hour;
               no_minute = u.no_minute;
               no_second = u.no_second;

@@ -96,7 +96,7 @@ module _ (x : Body) (p : Encodable x) (q : Acceptable x) where
         attoseconds = attoseconds_low;
         multiple = rw l.digits (mul-mod_left x.coefficient (scale x.utc.digits));
         no_month = λ h. ap (λ (f : Fields). f.month) (coarse (omega arith)) ∙ p.no_month (omega (arith, l.precision));
-        no_day_lem = λ h. ap (λ (f : Fields). f.day) (coarse (omega arith)) ∙ p.no_day_lem (omega (arith, l.precision));
+        no_day = λ h. ap (λ (f : Fields). f.day) (coarse (omega arith)) ∙ p.no_day (omega (arith, l.precision));
         no_hour = λ h. ap (λ (f : Fields). f.hour) (coarse h) ∙ p.no_hour (omega (arith, l.precision));
         no_minute = λ h. ap (λ (f : Fields). f.minute) (coarse h) ∙ p.no_minute (omega (arith, l.precision));
         no_offset = λ h. ap (λ (f : Fields). f.offset.0) (coarse h);

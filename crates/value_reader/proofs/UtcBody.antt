@@ -73,7 +73,7 @@ module _ (f : Fields) (a : ℕ) (v : Valid f a) where
             below_cons 16384 g.year (g.month ∷ g.day ∷ g.hour ∷ g.minute ∷ g.second ∷ []) (omega (arith, u.year))
             (fields_below 16384 (lit≤ tt) g u.time (omega (arith, u.second, v.second)));
         no_month = λ h. ap (λ (x : Fields). x.month) (coarse (omega (arith, u.precision))) ∙ v.no_month (omega (arith, u.precision));
-        no_day_lem = λ h. ap (λ (x : Fields). x.day) (coarse (omega (arith, u.precision))) ∙ v.no_day_lem (omega (arith, u.precision));
+        no_day = λ h. ap (λ (x : Fields). x.day) (coarse (omega (arith, u.precision))) ∙ v.no_day (omega (arith, u.precision));
         no_hour = λ h. ap (λ (x : Fields). x.hour) (coarse (omega (arith, u.precision))) ∙ v.no_hour (omega (arith, u.precision));
         no_minute = λ h. ap (λ (x : Fields). x.minute) (coarse (omega (arith, u.precision))) ∙ v.no_minute (omega (arith, u.precision));
         no_second = λ h. u.second ∙ v.no_second (omega (arith, u.precision));

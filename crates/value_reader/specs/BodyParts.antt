@@ -26,7 +26,7 @@ pub record Encodable (x : Body) : Type 0 where
   pub precise : x.utc.precision ≤ 4
   pub small : (i : ℕ) → get_or (field_list x.utc) i 0 < 16384
   pub no_month : x.utc.precision < 1 → x.utc.month ≡ 1
-  pub no_day_lem : x.utc.precision < 2 → x.utc.day ≡ 1
+  pub no_day : x.utc.precision < 2 → x.utc.day ≡ 1
   pub no_hour : x.utc.precision < 3 → x.utc.hour ≡ 0
   pub no_minute : x.utc.precision < 3 → x.utc.minute ≡ 0
   pub no_second : x.utc.precision < 4 → x.utc.second ≡ 0

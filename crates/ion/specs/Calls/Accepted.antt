@@ -56,7 +56,7 @@ pub record Valid (f : Fields) (a : ℕ) : Type 0 where
   pub attoseconds : a < 10 ^ 18
   pub multiple : a % scale f.digits ≡ 0
   pub no_month : f.precision < 1 → f.month ≡ 1
-  pub no_day_lem : f.precision < 2 → f.day ≡ 1
+  pub no_day : f.precision < 2 → f.day ≡ 1
   pub no_hour : f.precision < 3 → f.hour ≡ 0
   pub no_minute : f.precision < 3 → f.minute ≡ 0
   pub no_offset : f.precision < 3 → f.offset.0 ≡ 0
