@@ -5,16 +5,17 @@ usage: python3 tools/snake_names.py [TOP]     TOP: a checkout, by default the on
 
 Own is what an .antt file below specs/ or proofs/ declares. What Rattle makes keeps its spelling, goals and their parts among it; so do the functions of
 src/, exported names and strings. Where a law's new name is a definition's, the law's ends in _lem. In comments and in pages only what stands
-between backticks is respelled. Lines are not laid out again: rt fmt does that. A second run changes nothing.
+between backticks is respelled, in must-fail edits also the label. Lines are not laid out again: rt fmt does that. A second run changes nothing.
 """
 
 import os
 import re
 import sys
 
-TOKEN = r"[A-Za-z_][A-Za-z0-9_']*(?:-[A-Za-z0-9_][A-Za-z0-9_']*)*"
+TOKEN = r"[^\W\d][\w']*(?:-\w[\w']*)*"
 NAME = re.compile(r"(?<![\w'-])(?<!\bc\.)" + TOKEN + r"(?![\w'])")
 DECLARED = re.compile(r"^\s*(?:(?:pub|abbrev|unfoldable|instance|opaque)\s+)*((?:" + TOKEN + r"\s+)*" + TOKEN + r")\s*:(?!:)\s*(\S*)", re.M)
+LET = re.compile(r"\blet\s+(" + TOKEN + r")\s*[:=]")
 GOAL = re.compile(r"(?<![\w'.-])(?:goal|goals|c|l)\.(" + TOKEN + r")")
 TICKED = re.compile(r"`[^`\n]*`")
 
@@ -46,6 +47,7 @@ def new_names(top):
     for path in files(os.path.join(top, "crates"), ".antt"):
         text = re.sub(r"--.*", "", read(path))
         made.update(GOAL.findall(text))
+        local.update(LET.findall(text))
         of_a_function = re.search(r"/proofs/.*/", path)
         for names, kind in DECLARED.findall(text):
             (made if kind.startswith(("goal.", "goals.")) else local if of_a_function else declared).update(names.split())

@@ -114,9 +114,9 @@ end_second f r = cond (eqb (get_or r 0 0) (code ".")) (end_digits f (drop 1 r)) 
 unfoldable pub read_text : List ℕ → TextRead
 read_text s =
     on_value (read_digits 4 s) Broken (λ y.
-    let atYear = with_year y in
-    on_value (read_marked (code "-") (drop 4 s)) (end_t atYear (drop 4 s)) (λ mo.
-    let at_month = with_month atYear mo in
+    let at_year = with_year y in
+    on_value (read_marked (code "-") (drop 4 s)) (end_t at_year (drop 4 s)) (λ mo.
+    let at_month = with_month at_year mo in
     on_value (read_marked (code "-") (drop 7 s)) (end_t at_month (drop 7 s)) (λ d.
     let at_day = with_day at_month d in
     on_value (read_marked (code "T") (drop 10 s)) (end_date at_day (drop 10 s)) (λ h.
