@@ -38,5 +38,6 @@ input_read b n l h (Some xs) (Some ys) p q = go (dec_lt n (length b))
     go (no k) =
         let e : 65537 ≡ n = omega (arith, l, h) in
         let s = length-take-le n b h in
-        let c : take n (take n b ++ ys) ≡ take n b = take-append-le n (take n b) ys (omega (arith, s)) ∙ take_all n (take n b) (omega (arith, s)) in
+        let c : take n (take n b ++ ys) ≡ take n b =
+        take-append-le n (take n b) ys (omega (arith, s)) ∙ take_all n (take n b) (omega (arith, s)) in
         sym (ap output_of (ap (take 65537) p ∙ rw e c)) ∙ output_cut xs
