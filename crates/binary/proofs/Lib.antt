@@ -3,5 +3,4 @@ pub mod VarUInts
 pub mod VarInts
 pub mod Ints
 pub mod Decimals
-pub mod Stored
 pub mod Numbered

@@ -1,6 +1,6 @@
 -- VarInt: for both signs, negative zero among them, the shortest form is read back, and whatever is read is a shortest form.
 -- Assumes nothing.
-use mathlib.Core.Path.{◌≡◌, refl, sym, ap, ap₂, ◌∙◌}
+use mathlib.Core.Path.{◌≡◌, refl, sym, ap, ◌∙◌}
 use mathlib.Core.Bool.{Bool, true, false, cond}
 use mathlib.Core.List.{List, [], ◌∷◌, ◌++◌}
 use Prim.Native.Nat.{ℕ, zero, suc, ◌+◌, ◌-◌, ◌*◌, ◌/◌, ◌%◌, ◌^◌, ◌≤◌, ◌<◌}
@@ -10,20 +10,23 @@ use borrow.Author.Tests.{le-ltb, le-leb, lt-leb, eq-eqb, leb-true, leb-false, eq
 use lib.Count.{count_leading_zeros}
 use lib.Dec.{eqb, leb, ltb, lit<}
 use lib.IntN.{ℤ, nat_abs}
-use mir.Syntax.{w64}
-use mir.Val.{SFits, of_z, to_z}
 use mir.Facts.{to_z-of_z}
-use lib.ListN.{length, drop}
+use lib.ListN.{length, take, drop, set, get_or}
+use lib.Seq.{drop-cons}
+use Rattle.std.proofs.Common.{add-one, drop_of_length-le}
 use Rattle.places.specs.Places.{places_on}
 use Rattle.places.proofs.Laws.{held, place_monotone}
+use Rattle.places.proofs.Slices.{rest_slice}
 use Rattle.places.proofs.Below.{Below, below_cons}
 use Rattle.places.proofs.Bits.{double_zeros}
 use Rattle.ion.specs.Numbers.VarUInt.{groups, scan_from}
-use Rattle.ion.specs.Numbers.VarInt.{is_negative, signed_count, sign_first, signed, varint, if_shortest, unsign, read_var_int}
-use Rattle.ion.specs.declared.VarUIntRead.{VarUIntRead}
-use Rattle.ion.specs.declared.VarUIntRead.TheVariants as found
-use Rattle.ion.specs.declared.VarIntRead.TheVariants.{Value, Cut, Bad}
-use Rattle.binary.proofs.Groups.{groups_one, groups_more, length_groups, scan_more, scan_last, scan_groups, Scanned, scan_gives}
+use Rattle.ion.specs.Numbers.VarInt.{is_negative, signed_count, sign_first, signed}
+use Rattle.ion.specs.Numbers.VarInt.{varint, signed_magnitude, if_shortest, unsign, read_var_int}
+use Rattle.std.specs.Prelude.{Result, Ok, Err}
+use Rattle.ion.specs.declared.number.NumberError.{NumberError}
+use Rattle.ion.specs.declared.number.NumberError.TheVariants.{Cut, Bad}
+use Rattle.ion.specs.declared.number.SignedMagnitude.{SignedMagnitude}
+use Rattle.binary.proofs.Groups.{ok_pair, groups_one, groups_more, length_groups, scan_more, scan_last, scan_groups, Scanned, scan_gives}
 use Rattle.binary.proofs.VarUInts.{count_shortest, count_some}
 
 -- ---- how many bytes a magnitude and its sign have: they hold both, and no fewer do
@@ -39,6 +42,10 @@ signed_shortest n m h = count_shortest n (2 * m) h
 pub signed_some : (m : ℕ) → 0 < signed_count m
 unfolding signed_count
 signed_some m = count_some (2 * m)
+
+-- ten bytes hold 64 bits and a sign
+pub signed_u64 : (m : ℕ) → m < 2 ^ 64 → signed_count m ≤ 10
+signed_u64 m h = signed_shortest 9 m (omega arith)
 
 signed_monotone : (m l : ℕ) → m ≤ l → signed_count m ≤ signed_count l
 unfolding signed_count
@@ -76,6 +83,24 @@ sign_free m = go (signed_count m) (signed_some m) (signed_held m)
     go zero z h = absurd (omega arith)
     go (suc n) z h = free_in n m h
 
+-- what the groups become with their sign
+module _ (g : Bool) (m n : ℕ) (e : n ≡ length (signed g m)) where
+  groups_free : groups n m ≡ (sign_free m).byte ∷ (sign_free m).rest
+  groups_free = ap (λ (k : ℕ). groups k m) (e ∙ length_signed g m) ∙ (sign_free m).is
+
+  pub groups_sign : get_or (groups n m) 0 0 < 192
+  groups_sign = rw groups_free (sign_free m).below
+
+  pub groups_plus : g ≡ true → set (groups n m) 0 (get_or (groups n m) 0 0 + 64) ≡ signed g m
+  unfolding signed
+  groups_plus h = rw (groups_free, h, (sign_free m).is)
+
+  pub groups_plain : g ≡ false → groups n m ≡ signed g m
+  unfolding signed
+  groups_plain h = rw (groups_free, h, (sign_free m).is)
+
+pub ruleset signs = (length_signed, signed_some, signed_u64, groups_sign, groups_plus, groups_plain)
+
 sign_append : (g : Bool) (b : ℕ) (t r : List ℕ) → sign_first g (b ∷ t) ++ r ≡ sign_first g (b ∷ (t ++ r))
 sign_append false b t r = refl
 sign_append true b t r = refl
@@ -102,12 +127,13 @@ sign_again true c r h e =
 
 -- ---- the shortest form is read back, whatever follows it
 
-pub read_signed : (l : ℕ) (g : Bool) (m : ℕ) (r : List ℕ) → m ≤ l → read_var_int l (signed g m ++ r) ≡ Value g m (length (signed g m))
+pub read_signed : (l : ℕ) (g : Bool) (m : ℕ) (r : List ℕ) → m ≤ l
+    → read_var_int l (signed g m ++ r) ≡ Ok (signed_magnitude g m, length (signed g m))
 unfolding signed
 read_signed l g m r h =
     let n = signed_count m in
     let f = sign_free m in
-    let s : scan_from l (signed_count l) 0 0 (groups n m ++ r) ≡ found.Value m n =
+    let s : scan_from l (signed_count l) 0 0 (groups n m ++ r) ≡ Ok (m, n) =
     scan_groups l (signed_count l) n m r (signed_some m) (signed_monotone m l h) (omega (arith, signed_held m)) ∙ rw (le-ltb l m h)
     in
     ap (λ (x : List ℕ). read_var_int l (sign_first g x ++ r)) f.is
@@ -116,50 +142,46 @@ read_signed l g m r h =
     ∙ ap (λ (x : List ℕ). if_shortest g (scan_from l (signed_count l) 0 0 (x ++ r))) (sym f.is)
     ∙ ap (if_shortest g) s
     ∙ (rw (eq-eqb n n refl))
-    ∙ ap (Value g m) (sym (length_signed g m))
+    ∙ ap (λ (k : ℕ). Ok (signed_magnitude g m, k)) (sym (length_signed g m))
 
 pub read_varint : (l : ℕ) (z : ℤ) (r : List ℕ) → nat_abs z ≤ l
-    → read_var_int l (varint z ++ r) ≡ Value (is_negative z) (nat_abs z) (length (varint z))
+    → read_var_int l (varint z ++ r) ≡ Ok (signed_magnitude (is_negative z) (nat_abs z), length (varint z))
 unfolding varint
 read_varint l z r h = read_signed l (is_negative z) (nat_abs z) r h
 
--- the sign and the size of a number that is passed as an i64 are its own
-pub i64_parts : {z : ℤ} {g : Bool} {m : ℕ} → SFits w64 z
-    → record { negative : g ≡ is_negative (to_z w64 (of_z w64 z)); magnitude : m ≡ nat_abs (to_z w64 (of_z w64 z)) }
-    → (m ≡ nat_abs z) × (signed g m ≡ varint z)
-unfolding varint
-i64_parts {z} {g} {m} f e =
-    let n : g ≡ is_negative z = simp to_z-of_z at e.negative in
-    let k : m ≡ nat_abs z = simp to_z-of_z at e.magnitude in
-    (k, ap₂ signed n k)
+-- a number that is passed as an i64 is its own
+pub ruleset passed = (to_z-of_z)
 
 -- ---- and whatever is read is the shortest form of what is found
 
-opened : (l c : ℕ) (r : List ℕ) (g : Bool) (m j : ℕ) → read_var_int l (c ∷ r) ≡ Value g m j
+opened : (l c : ℕ) (r : List ℕ) (g : Bool) (m j : ℕ) → read_var_int l (c ∷ r) ≡ Ok (signed_magnitude g m, j)
     → (leb 64 (c % 128) ≡ g) × Scanned l 0 0 (unsign c ∷ r) m j × (signed_count m ≡ j)
 unfolding read_var_int
 opened l c r g m j e = go (scan_from l (signed_count l) 0 0 (unsign c ∷ r)) refl e
   where
-    pass : (x k : ℕ) → scan_from l (signed_count l) 0 0 (unsign c ∷ r) ≡ found.Value x k → (t : Bool) → eqb (signed_count x) k ≡ t
-        → cond t (Value (leb 64 (c % 128)) x k) Bad ≡ Value g m j
+    pass : (x k : ℕ) → scan_from l (signed_count l) 0 0 (unsign c ∷ r) ≡ Ok (x, k) → (t : Bool) → eqb (signed_count x) k ≡ t
+        → cond {A = Result (SignedMagnitude × ℕ) NumberError} t (Ok (signed_magnitude (leb 64 (c % 128)) x, k)) (Err Bad)
+        ≡ Ok (signed_magnitude g m, j)
         → (leb 64 (c % 128) ≡ g) × Scanned l 0 0 (unsign c ∷ r) m j × (signed_count m ≡ j)
-    pass x k f false q e = absurd (let z : ◌≡◌ {A = ℕ} 0 1 = cc in omega arith)
+    pass x k f false q e = absurd (cc)
     pass x k f true q e =
-        let eg : leb 64 (c % 128) ≡ g = cc in
-        let em : x ≡ m = cc in
-        let ej : k ≡ j = cc in
+        let p = ok_pair e in
+        let eg = ap (λ (n : SignedMagnitude). n.negative) p.0 in
+        let em = ap (λ (n : SignedMagnitude). n.magnitude) p.0 in
+        let ej = p.1 in
         rw (← em, ← ej) (eg, scan_gives l (signed_count l) 0 0 (unsign c ∷ r) x k f, eqb-true (signed_count x) k q)
 
-    go : (x : VarUIntRead) → scan_from l (signed_count l) 0 0 (unsign c ∷ r) ≡ x → if_shortest (leb 64 (c % 128)) x ≡ Value g m j
+    go : (x : Result (ℕ × ℕ) NumberError) → scan_from l (signed_count l) 0 0 (unsign c ∷ r) ≡ x
+        → if_shortest (leb 64 (c % 128)) x ≡ Ok (signed_magnitude g m, j)
         → (leb 64 (c % 128) ≡ g) × Scanned l 0 0 (unsign c ∷ r) m j × (signed_count m ≡ j)
-    go (found.Value x k) f e = pass x k f (eqb (signed_count x) k) refl e
-    go found.Cut f e = absurd (let z : ◌≡◌ {A = ℕ} 0 1 = cc in omega arith)
-    go found.Bad f e = absurd (let z : ◌≡◌ {A = ℕ} 0 1 = cc in omega arith)
+    go (Ok x) f e = pass x.0 x.1 f (eqb (signed_count x.0) x.1) refl e
+    go (Err x) f e = absurd (cc)
 
 -- what is read lies within the input
-pub read_signed_within : (l : ℕ) (s : List ℕ) (g : Bool) (m j : ℕ) → read_var_int l s ≡ Value g m j → (0 < j) × (j ≤ length s)
+pub read_signed_within : (l : ℕ) (s : List ℕ) (g : Bool) (m j : ℕ)
+    → read_var_int l s ≡ Ok (signed_magnitude g m, j) → (0 < j) × (j ≤ length s)
 unfolding read_var_int
-read_signed_within l [] g m j e = absurd (let z : ◌≡◌ {A = ℕ} 0 1 = cc in omega arith)
+read_signed_within l [] g m j e = absurd (cc)
 read_signed_within l (c ∷ r) g m j e =
     let f = (opened l c r g m j e).1 in
     (f.some, omega (arith, f.within))
@@ -177,10 +199,10 @@ signed_bytes g c m (suc j) r h eg n z e =
     ∙ sym (sign_append g f.byte f.rest d)
     ∙ ap (λ (x : List ℕ). sign_first g x ++ d) (sym f.is)
 
-pub read_signed_is : (l : ℕ) (s : List ℕ) (g : Bool) (m j : ℕ) → Below 256 s → read_var_int l s ≡ Value g m j
+pub read_signed_is : (l : ℕ) (s : List ℕ) (g : Bool) (m j : ℕ) → Below 256 s → read_var_int l s ≡ Ok (signed_magnitude g m, j)
     → (m ≤ l) × (j ≡ signed_count m) × (s ≡ signed g m ++ drop j s)
 unfolding read_var_int places_on
-read_signed_is l [] g m j h e = absurd (let z : ◌≡◌ {A = ℕ} 0 1 = cc in omega arith)
+read_signed_is l [] g m j h e = absurd (cc)
 read_signed_is l (c ∷ r) g m j h e =
     let o = opened l c r g m j e in
     let f = o.1 in
@@ -190,13 +212,9 @@ read_signed_is l (c ∷ r) g m j h e =
 
 -- ---- the reader's steps, by the first byte
 
-pub read_none : (l : ℕ) → read_var_int l [] ≡ Cut
-unfolding read_var_int
-read_none l = refl
-
 -- the magnitude of a single byte is in its shortest form
 pub read_alone : (l b : ℕ) (r : List ℕ) → 128 ≤ b → b < 256
-    → read_var_int l (b ∷ r) ≡ cond (ltb l (b % 64)) Bad (Value (leb 64 (b % 128)) (b % 64) 1)
+    → read_var_int l (b ∷ r) ≡ cond (ltb l (b % 64)) (Err Bad) (Ok (signed_magnitude (leb 64 (b % 128)) (b % 64), 1))
 unfolding read_var_int
 read_alone l b r h k =
     let n = signed_count l - 1 in
@@ -207,8 +225,8 @@ read_alone l b r h k =
     ∙ go o (ltb l (b % 64))
   where
     go : signed_count (b % 64) ≡ 1 → (t : Bool)
-        → if_shortest (leb 64 (b % 128)) (cond t found.Bad (found.Value (b % 64) (0 + 1)))
-        ≡ cond t Bad (Value (leb 64 (b % 128)) (b % 64) 1)
+        → if_shortest (leb 64 (b % 128)) (cond t (Err Bad) (Ok (b % 64, 0 + 1)))
+        ≡ cond t (Err Bad) (Ok (signed_magnitude (leb 64 (b % 128)) (b % 64), 1))
     go o true = refl
     go o false = rw (eq-eqb (signed_count (b % 64)) 1 o)
 
@@ -221,9 +239,25 @@ read_first l b r h =
     ap (λ (x : ℕ). if_shortest (leb 64 (b % 128)) (scan_from l x 0 0 (unsign b ∷ r))) e
     ∙ ap (if_shortest (leb 64 (b % 128))) (scan_more l n 0 0 (unsign b) (b % 64) r (omega arith) (omega arith))
 
--- ten bytes hold 64 bits and a sign
-pub signed_u64 : (m : ℕ) → m < 2 ^ 64 → signed_count m ≤ 10
-signed_u64 m h = signed_shortest 9 m (omega arith)
+module _ (l : ℕ) (s : List ℕ) (i : ℕ) where
+  pub read_ends : length s ≤ i → read_var_int l (drop i s) ≡ Err Cut
+  unfolding read_var_int
+  read_ends h = rw (drop_of_length-le s h)
+
+  read_from : i < length s → read_var_int l (drop i s) ≡ read_var_int l (get_or s i 0 ∷ drop (i + 1) s)
+  read_from h = rw (add-one i) (ap (read_var_int l) (drop-cons s i 0 h))
+
+  pub read_marked : (b : ℕ) → i < length s → b ≡ get_or s i 0 → 128 ≤ b → b < 256
+      → read_var_int l (drop i s) ≡ cond (ltb l (b % 64)) (Err Bad) (Ok (signed_magnitude (leb 64 (b % 128)) (b % 64), 1))
+  read_marked b h e c k = read_from h ∙ rw (← e) (read_alone l b (drop (i + 1) s) c k)
+
+  pub read_passed : (b n : ℕ) → i < length s → b ≡ get_or s i 0 → b < 128 → n ≡ signed_count l
+      → read_var_int l (drop i s)
+      ≡ if_shortest (leb 64 (b % 128)) (scan_from l (n - 1) (b % 64) 1 (take (length s - (i + 1)) (drop (i + 1) s)))
+  read_passed b n h e c f =
+      read_from h ∙ rw (← e, f, rest_slice s (i + 1)) (read_first l b (drop (i + 1) s) c)
+
+pub ruleset reading = (read_ends, read_marked, read_passed, signed_u64, signed_some)
 
 -- ---- the number of bytes from the leading zeros
 

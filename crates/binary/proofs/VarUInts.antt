@@ -3,7 +3,7 @@
 use mathlib.Core.Path.{◌≡◌, refl, sym, ap, ◌∙◌}
 use mathlib.Core.Bool.{Bool, true, false, cond}
 use mathlib.Core.List.{List, [], ◌∷◌, ◌++◌}
-use Prim.Native.Nat.{ℕ, zero, suc, ◌+◌, ◌-◌, ◌*◌, ◌/◌, ◌%◌, ◌^◌, ◌≤◌, ◌<◌}
+use Prim.Native.Nat.{ℕ, zero, suc, ◌+◌, ◌-◌, ◌*◌, ◌/◌, ◌%◌, ◌^◌, ◌≤◌, ◌<◌, max}
 use native.Mathlib.Nat.{pow-succ', div-eq_of_lt, div-lt_iff_lt-mul, le-div_iff_mul-le, one-le-pow}
 use native.Mathlib.Decide.{dec_lt}
 use native.Mathlib.Omega.{arith}
@@ -16,8 +16,10 @@ use Rattle.places.proofs.Laws.{held, fewest, place_some, place_monotone, place_i
 use Rattle.places.proofs.Below.{Below}
 use Rattle.places.proofs.Bits.{zeros_places}
 use Rattle.ion.specs.Numbers.VarUInt.{groups, group_count, varuint, scan_from, zero_first, read_var_uint}
-use Rattle.ion.specs.declared.VarUIntRead.TheVariants.{Value, Cut, Bad}
-use Rattle.binary.proofs.Groups.{groups_one, groups_more, length_groups, scan_groups, Scanned, scan_gives}
+use Rattle.std.specs.Prelude.{Ok, Err}
+use Rattle.ion.specs.declared.number.NumberError.TheVariants.{Cut, Bad}
+use Rattle.std.proofs.Common.{drop_of_length-le}
+use Rattle.binary.proofs.Groups.{scan_none, groups_one, groups_more, length_groups, scan_groups, Scanned, scan_gives}
 use Rattle.binary.proofs.Groups.{scan_cut, cut_scan, Missed, unmarked, above, scan_unmarked, scan_missed}
 
 -- ---- how many groups a number has: its groups hold it, and no fewer do
@@ -32,13 +34,15 @@ pub length_varuint : (m : ℕ) → length (varuint m) ≡ group_count m
 unfolding varuint
 length_varuint m = length_groups (group_count m) m
 
-pub groups_varuint : (m n : ℕ) → n ≡ group_count m → groups n m ≡ varuint m
+pub groups_varuint : (m n : ℕ) → n ≡ length (varuint m) → groups n m ≡ varuint m
 unfolding varuint
-groups_varuint m n e = ap (λ (k : ℕ). groups k m) e
+groups_varuint m n e = ap (λ (k : ℕ). groups k m) (e ∙ length_varuint m)
 
 -- ten groups hold 64 bits
 pub groups_u64 : (m : ℕ) → m < 2 ^ 64 → group_count m ≤ 10
 groups_u64 m h = count_shortest 9 m (omega arith)
+
+pub ruleset varuints = (length_varuint, count_some, groups_varuint, groups_u64)
 
 -- ---- a first byte 0 is that of a number that fewer groups hold
 
@@ -84,13 +88,11 @@ zero_first_padded (suc (suc n)) m r z h = zero_first_lem n m r h ∙ go (dec_lt 
         let b : 128 ^ suc n ≤ m = omega arith in
         le-ltb m (128 ^ suc n) b ∙ sym (le-ltb (group_count m) (suc (suc n)) (omega (arith, place_is 128 (lit< tt) (suc n) m b h)))
 
-pub read_padded : (l : ℕ) (s : List ℕ) → zero_first s ≡ true → read_var_uint l s ≡ Bad
-unfolding read_var_uint
-read_padded l s e = rw e
-
 pub read_scanned : (l : ℕ) (s : List ℕ) → zero_first s ≡ false → read_var_uint l s ≡ scan_from l (group_count l) 0 0 s
 unfolding read_var_uint
 read_scanned l s e = rw e
+
+pub ruleset reading = (groups_u64, count_some, scan_none, drop_of_length-le)
 
 -- ---- the bytes are cut short: no marked one, fewer than the limit has, and no 0 before another
 
@@ -99,20 +101,20 @@ pub record CutShort (l : ℕ) (s : List ℕ) : Type 0 where
   pub unmarked : Below 128 s
   pub unpadded : zero_first s ≡ false
 
-pub read_cut : (l : ℕ) (s : List ℕ) → CutShort l s → read_var_uint l s ≡ Cut
+pub read_cut : (l : ℕ) (s : List ℕ) → CutShort l s → read_var_uint l s ≡ Err Cut
 read_cut l s c = read_scanned l s c.unpadded ∙ scan_cut l (group_count l) 0 0 s c.few c.unmarked
 
-pub cut_read : (l : ℕ) (s : List ℕ) → read_var_uint l s ≡ Cut → CutShort l s
+pub cut_read : (l : ℕ) (s : List ℕ) → read_var_uint l s ≡ Err Cut → CutShort l s
 unfolding read_var_uint
 cut_read l s e = go (zero_first s) refl e
   where
-    go : (t : Bool) → zero_first s ≡ t → cond t Bad (scan_from l (group_count l) 0 0 s) ≡ Cut → CutShort l s
-    go true f e = absurd (let z : ◌≡◌ {A = ℕ} 0 1 = cc in omega arith)
+    go : (t : Bool) → zero_first s ≡ t → cond t (Err Bad) (scan_from l (group_count l) 0 0 s) ≡ Err Cut → CutShort l s
+    go true f e = absurd (cc)
     go false f e = let p = cut_scan l (group_count l) 0 0 s e in record { few = p.0; unmarked = p.1; unpadded = f }
 
 -- ---- the shortest form is read back, whatever follows it
 
-pub read_varuint : (l m : ℕ) (r : List ℕ) → m ≤ l → read_var_uint l (varuint m ++ r) ≡ Value m (group_count m)
+pub read_varuint : (l m : ℕ) (r : List ℕ) → m ≤ l → read_var_uint l (varuint m ++ r) ≡ Ok (m, group_count m)
 unfolding read_var_uint varuint
 read_varuint l m r h =
     let n = group_count m in
@@ -122,16 +124,16 @@ read_varuint l m r h =
 
 -- ---- and whatever is read is the shortest form of what is found
 
-opened : (l : ℕ) (s : List ℕ) (m j : ℕ) → read_var_uint l s ≡ Value m j → (zero_first s ≡ false) × Scanned l 0 0 s m j
+opened : (l : ℕ) (s : List ℕ) (m j : ℕ) → read_var_uint l s ≡ Ok (m, j) → (zero_first s ≡ false) × Scanned l 0 0 s m j
 unfolding read_var_uint
 opened l s m j e = go (zero_first s) refl e
   where
-    go : (t : Bool) → zero_first s ≡ t → cond t Bad (scan_from l (group_count l) 0 0 s) ≡ Value m j
+    go : (t : Bool) → zero_first s ≡ t → cond t (Err Bad) (scan_from l (group_count l) 0 0 s) ≡ Ok (m, j)
         → (zero_first s ≡ false) × Scanned l 0 0 s m j
-    go true f e = absurd (let z : ◌≡◌ {A = ℕ} 0 1 = cc in omega arith)
+    go true f e = absurd (cc)
     go false f e = (f, scan_gives l (group_count l) 0 0 s m j e)
 
-pub read_varuint_is : (l : ℕ) (s : List ℕ) (m j : ℕ) → Below 256 s → read_var_uint l s ≡ Value m j
+pub read_varuint_is : (l : ℕ) (s : List ℕ) (m j : ℕ) → Below 256 s → read_var_uint l s ≡ Ok (m, j)
     → (m ≤ l) × (j ≡ group_count m) × (s ≡ varuint m ++ drop j s)
 unfolding varuint places_on
 read_varuint_is l s m j g e =
@@ -152,23 +154,23 @@ pub data Unreadable (l : ℕ) (s : List ℕ) : Type 0 where
   endless : group_count l ≤ length s → Below 128 (take (group_count l) s) → Unreadable l s
   too_large : (m j : ℕ) (r : List ℕ) → l < m → 0 < j → j ≤ group_count l → m < 128 ^ j → s ≡ groups j m ++ r → Unreadable l s
 
-pub read_bad : (l : ℕ) (s : List ℕ) → Unreadable l s → read_var_uint l s ≡ Bad
+pub read_bad : (l : ℕ) (s : List ℕ) → Unreadable l s → read_var_uint l s ≡ Err Bad
 unfolding read_var_uint
 read_bad l s u = from u
   where
-    scanned : scan_from l (group_count l) 0 0 s ≡ Bad → (t : Bool) → cond t Bad (scan_from l (group_count l) 0 0 s) ≡ Bad
+    scanned : scan_from l (group_count l) 0 0 s ≡ Err Bad → (t : Bool) → cond t (Err Bad) (scan_from l (group_count l) 0 0 s) ≡ Err Bad
     scanned e true = refl
     scanned e false = e
 
-    from : Unreadable l s → cond (zero_first s) Bad (scan_from l (group_count l) 0 0 s) ≡ Bad
+    from : Unreadable l s → cond (zero_first s) (Err Bad) (scan_from l (group_count l) 0 0 s) ≡ Err Bad
     from (padded e) = rw e
     from (endless h b) = scanned (scan_unmarked l (group_count l) 0 0 s h b) (zero_first s)
     from (too_large m j r h z i k e) =
-        let found : scan_from l (group_count l) 0 0 (groups j m ++ r) ≡ Bad =
+        let found : scan_from l (group_count l) 0 0 (groups j m ++ r) ≡ Err Bad =
         scan_groups l (group_count l) j m r z i k ∙ rw (lt-ltb l m h) in
         scanned (ap (scan_from l (group_count l) 0 0) e ∙ found) (zero_first s)
 
-pub bad_read : (l : ℕ) (s : List ℕ) → Below 256 s → read_var_uint l s ≡ Bad → Unreadable l s
+pub bad_read : (l : ℕ) (s : List ℕ) → Below 256 s → read_var_uint l s ≡ Err Bad → Unreadable l s
 unfolding read_var_uint places_on
 bad_read l s b e = go (zero_first s) refl e
   where
@@ -178,12 +180,12 @@ bad_read l s b e = go (zero_first s) refl e
         let z : j - 0 ≡ j = omega arith in
         too_large m j (drop j s) h f.some (omega arith) (f.held (lit< tt)) (rw z at (f.bytes b))
 
-    go : (t : Bool) → zero_first s ≡ t → cond t Bad (scan_from l (group_count l) 0 0 s) ≡ Bad → Unreadable l s
+    go : (t : Bool) → zero_first s ≡ t → cond t (Err Bad) (scan_from l (group_count l) 0 0 s) ≡ Err Bad → Unreadable l s
     go true f e = padded f
     go false f e = from (scan_missed l (group_count l) 0 0 s e)
 
 -- what is read lies within the input
-pub read_within : (l : ℕ) (s : List ℕ) (m j : ℕ) → read_var_uint l s ≡ Value m j → (0 < j) × (j ≤ length s)
+pub read_within : (l : ℕ) (s : List ℕ) (m j : ℕ) → read_var_uint l s ≡ Ok (m, j) → (0 < j) × (j ≤ length s)
 read_within l s m j e =
     let f = (opened l s m j e).1 in
     (f.some, omega (arith, f.within))
@@ -192,3 +194,6 @@ read_within l s m j e =
 
 pub zeros_count : (w v : ℕ) → v < 2 ^ w → group_count v ≡ suc ((w - count_leading_zeros w v - 1) / 7)
 zeros_count w v h = zeros_places 7 (lit< tt) w v h
+
+pub zeros_of_word : (v : ℕ) → v < 2 ^ 64 → group_count v ≡ max 1 ((64 - count_leading_zeros 64 v + 6) / 7)
+zeros_of_word v h = omega (arith, zeros_count 64 v h)

@@ -7,14 +7,15 @@ use lib.IntN.{ℤ, nat_abs}
 use borrow.Author.Tests.{lt-ltb, le-ltb, lt-leb, ltb-false, leb-false, ltb-true, not-false}
 use Rattle.places.proofs.Decides.{Decides, le_decides, ◌and◌}
 use Rattle.ion.specs.Pair.Offset.{WithinDay, is_offset}
-use Rattle.ion.specs.Calls.Build.{precision_number, range_checks, offset_outside, to_offset, is_year}
+use Rattle.std.specs.Prelude.{Ok}
+use Rattle.ion.specs.Calls.Build.{precision_number, first_of, range_checks, offset_outside, to_offset, is_year}
 use Rattle.ion.specs.Calls.Accepted.{InBounds}
 use Rattle.ion.specs.declared.BuilderFields.{BuilderFields}
 use Rattle.ion.specs.declared.BuilderOffset.{BuilderOffset}
 use Rattle.ion.specs.declared.BuilderOffset.TheVariants.{Unknown, FromLocalFields, FromUtcFields}
 use Rattle.ion.specs.declared.TimestampPrecision.{TimestampPrecision}
 use Rattle.ion.specs.declared.TimestampPrecision.TheVariants.{Year, Month, Day, HourAndMinute, Second}
-use Rattle.builder.proofs.Checks.{AllPass}
+use Rattle.builder.proofs.Checks.{AllPass, pass_ok, ok_pass}
 
 offset_is : (z : ℤ) → not (is_offset z) ≡ false → nat_abs z < 1440
 offset_is z e = ltb-true (nat_abs z) 1440 (not-false (is_offset z) e)
@@ -32,7 +33,7 @@ not_outside Unknown h = refl
 not_outside (FromLocalFields m) h = is_offset_lem m.0 h
 not_outside (FromUtcFields m) h = is_offset_lem m.0 h
 
-pub in_bounds : (f : BuilderFields) → AllPass (range_checks f) → InBounds f
+in_bounds : (f : BuilderFields) → AllPass (range_checks f) → InBounds f
 in_bounds f (a, (y, (mo, (d, (h, (mi, (s, (n, (o, e))))))))) =
     record {
       attoseconds = leb-false (10 ^ 18) f.attoseconds a;
@@ -46,7 +47,7 @@ in_bounds f (a, (y, (mo, (d, (h, (mi, (s, (n, (o, e))))))))) =
       offset = within f.offset o;
     }
 
-pub bounds_pass : (f : BuilderFields) → InBounds f → AllPass (range_checks f)
+bounds_pass : (f : BuilderFields) → InBounds f → AllPass (range_checks f)
 bounds_pass f b =
     let a = lt-leb (10 ^ 18) f.attoseconds b.attoseconds in
     let y = le-ltb 9999 f.year b.year in
@@ -57,6 +58,12 @@ bounds_pass f b =
     let s = le-ltb 59 f.second b.second in
     let n = le-ltb 18 f.digits b.digits in
     (a, (y, (mo, (d, (h, (mi, (s, (n, (not_outside f.offset b.offset, tt)))))))))
+
+pub ranges_bounds : (f : BuilderFields) → first_of (range_checks f) ≡ Ok tt → InBounds f
+ranges_bounds f e = in_bounds f (ok_pass (range_checks f) e)
+
+pub bounds_ranges : (f : BuilderFields) → InBounds f → first_of (range_checks f) ≡ Ok tt
+bounds_ranges f b = pass_ok (range_checks f) (bounds_pass f b)
 
 pub precision_le : (p : TimestampPrecision) → precision_number p ≤ 4
 precision_le Year = omega arith

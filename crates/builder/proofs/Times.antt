@@ -1,18 +1,18 @@
 -- The local time of fields that pass the builder's checks. Assumes nothing.
-use mathlib.Core.Path.{◌≡◌, ap, ◌∙◌}
+use mathlib.Core.Path.{◌≡◌, refl, sym, ap, ◌∙◌}
 use mathlib.Core.Bool.{true}
-use mathlib.Core.List.{◌++◌}
 use Prim.Native.Nat.{ℕ, ◌≤◌, ◌<◌}
 use native.Mathlib.Omega.{arith}
 use lib.IntN.{pos, neg_ℤ}
 use borrow.Author.Tests.{not-false}
-use Rattle.integers.proofs.Parts.{neg_parts}
+use borrow.Author.Differences.{neg_is}
+use Rattle.std.specs.Prelude.{Option, Result, Ok, Err}
+use Rattle.std.specs.Result.{result_and}
 use Rattle.ion.specs.Calendar.Shift.{IsDateTime, date_of, shifted}
 use Rattle.ion.specs.Pair.Offset.{WithinDay, offset_minutes}
 use Rattle.ion.specs.Pair.Word.{InRange}
 use Rattle.ion.specs.Calls.Build.{precision_number, is_year, is_day, route_checks, local_checks, given_time, moved_time, local_time}
-use Rattle.ion.specs.Calls.Build.{range_checks, packed_of, refused_build, build_number, build_of}
-use Rattle.ion.specs.Calls.Refusal.{local_year_refused}
+use Rattle.ion.specs.Calls.Build.{first_of, range_checks, packed_of, build_checks, build_of}
 use Rattle.ion.specs.Calls.Accepted.{InBounds, Staged, date_in, time_in}
 use Rattle.ion.specs.declared.DateTime.{DateTime}
 use Rattle.ion.specs.declared.Fields.{Fields}
@@ -20,14 +20,16 @@ use Rattle.ion.specs.declared.BuilderFields.{BuilderFields}
 use Rattle.ion.specs.declared.BuilderOffset.{BuilderOffset}
 use Rattle.ion.specs.declared.BuilderOffset.TheVariants.{Unknown, FromLocalFields, FromUtcFields}
 use Rattle.ion.specs.declared.TimestampPrecision.TheVariants.{Year}
-use Rattle.ion.specs.declared.offset.Offset.{Offset}
+use Rattle.ion.specs.declared.offset.OffsetMinutes.{OffsetMinutes}
+use Rattle.ion.specs.declared.refusal.Refusal.{Refusal}
+use Rattle.ion.specs.declared.refusal.Refusal.TheVariants as refusal
 use Rattle.ion.proofs.Offsets.{raw_lt}
 use Rattle.calendar.proofs.Dates.{is_date_lem, first_day_is, month_of_lem, day_of_lem}
 use Rattle.calendar.proofs.Shifts.{shifted_is}
 use Rattle.calendar.proofs.FirstDay.{year_zero_back}
-use Rattle.builder.proofs.Checks.{AllPass, zero_pass, pass_left, pass_right}
-use Rattle.builder.proofs.Bounds.{in_bounds, precision_le, bounds_pass, year_decides}
-use Rattle.builder.proofs.Routed.{all_numbered, routed, build_routed}
+use Rattle.builder.proofs.Checks.{AllPass, ok_pass}
+use Rattle.builder.proofs.Bounds.{ranges_bounds, bounds_ranges, precision_le, year_decides}
+use Rattle.builder.proofs.Routed.{routed, checks_routed, build_routed}
 
 -- fields in bounds with such a calendar day are a date and a time
 pub time_is : (f : BuilderFields) → InBounds f → is_day f ≡ true → IsDateTime (given_time f)
@@ -47,7 +49,7 @@ pub fields_in_range : (f : Fields) → IsDateTime (time_in f) → f.year ≤ 100
     → f.offset.0 < 2880 → InRange f
 fields_in_range f p y s q d o = omega (arith, month_of_lem (date_in f) p.date, day_of_lem (date_in f) p.date, p.hours, p.minutes)
 
-pub time_in_range : (f : BuilderFields) (t : DateTime) (o : Offset) → InBounds f → IsDateTime t → t.year ≤ 10000 → WithinDay o
+pub time_in_range : (f : BuilderFields) (t : DateTime) (o : Option OffsetMinutes) → InBounds f → IsDateTime t → t.year ≤ 10000 → WithinDay o
     → InRange (packed_of f t o)
 time_in_range f t o b p y w = fields_in_range (packed_of f t o) p y b.second (precision_le f.precision) b.digits (raw_lt o w)
 
@@ -71,20 +73,27 @@ local_is f (FromUtcFields m) b h =
     let y = (year_decides (moved_time f m).year).0 (not-false (is_year (moved_time f m).year) h.1.0) in
     record { time = shifted_is (given_time f) m.0 p; from_year = y.0; to_year = y.1 }
 
+-- both checks pass where one after the other does
+both_ok : (a b : Result Unit Refusal) → result_and a b ≡ Ok tt → (a ≡ Ok tt) × (b ≡ Ok tt)
+both_ok (Ok tt) b e = (refl, e)
+both_ok (Err r) b e = absurd cc
+
 -- what the builder accepts
-pub build_local : (f : BuilderFields) → build_number f ≡ 0 → InBounds f × IsLocalTime (local_time f f.offset)
-unfolding build_number
+pub build_local : (f : BuilderFields) → build_checks f ≡ Ok tt → InBounds f × IsLocalTime (local_time f f.offset)
 build_local f e =
     let r = route_checks f f.offset in
-    let h = zero_pass (range_checks f ++ r) (all_numbered f) e in
-    let i = in_bounds f (pass_left (range_checks f) r h) in
-    (i, local_is f f.offset i (pass_right (range_checks f) r h))
+    let h = both_ok (first_of (range_checks f)) (first_of r) (sym (checks_routed f) ∙ e) in
+    let i = ranges_bounds f h.0 in
+    (i, local_is f f.offset i (ok_pass r h.1))
 
 -- fields of UTC year 0 and an offset of n minutes back: the local year is 0 too
 pub year_zero_refused : (f : BuilderFields) (n : ℕ) → InBounds f → is_day f ≡ true → f.year ≡ 0
-    → f.offset ≡ FromUtcFields (offset_minutes (neg_ℤ (pos n))) → build_of f ≡ refused_build local_year_refused
+    → f.offset ≡ FromUtcFields (offset_minutes (neg_ℤ (pos n))) → build_of f ≡ Err refusal.LocalYear
 year_zero_refused f n b d y e =
     let z = neg_ℤ (pos n) in
     let k : (shifted (given_time f) z).year ≡ 0 =
-    year_zero_back (given_time f) z (omega (arith, b.hour)) (omega (arith, b.minute)) y (neg_parts (pos n)).0 in
-    build_routed f (bounds_pass f b) ∙ ap (routed f) e ∙ simp (d, k)
+    year_zero_back (given_time f) z (omega (arith, b.hour)) (omega (arith, b.minute)) y (neg_is (pos n)).0 in
+    build_routed f
+    ∙ ap (λ (c : Result Unit Refusal). result_and c (routed f f.offset)) (bounds_ranges f b)
+    ∙ ap (routed f) e
+    ∙ simp (d, k)

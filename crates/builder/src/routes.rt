@@ -1,34 +1,21 @@
 // The two ways to a timestamp: from local fields, and from UTC fields, which an offset moves to local ones.
 ghost use Rattle.std.specs.Prelude.{◌≡◌};
+ghost use Rattle.std.specs.Result.{result_and};
 ghost use Rattle.ion.specs.Pair.Offset.{WithinDay};
 ghost use Rattle.ion.specs.Pair.Word.{InRange};
-ghost use Rattle.ion.specs.Calls.Build.{precision_number, is_day, is_year, given_time, moved_time};
-ghost use Rattle.ion.specs.Calls.Build.{first_of, local_checks, utc_checks, packed_of, pair_at, accepted_build, build_answer};
+ghost use Rattle.ion.specs.Calls.Build.{is_day, is_year, given_time, moved_time};
+ghost use Rattle.ion.specs.Calls.Build.{first_of, local_checks, utc_checks, packed_of, pair_at};
 ghost use Rattle.ion.specs.Calls.Accepted.{InBounds};
 
-use ion::offset::{Offset, OffsetMinutes};
-use ion::{
-    BuilderFields, Built, Date, DateTime, Fields, Timestamp, TimestampPrecision, offset, refusal,
-};
+use ion::offset::{OffsetMinutes, raw_of};
+use ion::{BuilderFields, DateTime, Fields, Refusal, Timestamp};
 
-fn precision_number(p: TimestampPrecision) -> u32
-    ensures { result ≡ precision_number p }
+// The packed pair of the local fields, the one place that copies them: year to minute have their own names in a word. An offset that
+// anyone may give stays within a day by a fact in contracts.
+fn finish(f: BuilderFields, local: DateTime, offset: Option<OffsetMinutes>) -> Timestamp
+    requires { WithinDay offset × InRange (packed_of f local offset) }
+    ensures { result ≡ pair_at f local offset }
 {
-    match p {
-        TimestampPrecision::Year => 0,
-        TimestampPrecision::Month => 1,
-        TimestampPrecision::Day => 2,
-        TimestampPrecision::HourAndMinute => 3,
-        TimestampPrecision::Second => 4,
-    }
-}
-
-// The packed pair of the local fields.
-fn finish(f: BuilderFields, local: DateTime, o: Offset) -> Built
-    requires { WithinDay o × InRange (packed_of f local o) }
-    ensures { result ≡ accepted_build (pair_at f local o) }
-{
-    let precision = f.precision;
     let fields = Fields {
         year: local.year,
         month: local.month,
@@ -36,16 +23,34 @@ fn finish(f: BuilderFields, local: DateTime, o: Offset) -> Built
         hour: local.hour,
         minute: local.minute,
         second: f.second,
-        precision: precision_number(precision),
+        precision: f.precision.number(),
         digits: f.digits as u32,
-        offset: offset::raw_of(o),
+        offset: raw_of(offset),
     };
-    Built {
-        number: 0,
-        stamp: Timestamp {
-            packed_fields: packed::pack(fields),
-            attoseconds: f.attoseconds,
-        },
+    Timestamp {
+        packed_fields: packed::pack(fields),
+        attoseconds: f.attoseconds,
+    }
+}
+
+// The fields to the minute, as they were given. The one place that copies them.
+fn given_time(f: BuilderFields) -> DateTime
+    ensures { result ≡ given_time f }
+{
+    let BuilderFields {
+        year,
+        month,
+        day,
+        hour,
+        minute,
+        ..
+    } = f;
+    DateTime {
+        year,
+        month,
+        day,
+        hour,
+        minute,
     }
 }
 
@@ -53,60 +58,44 @@ fn finish(f: BuilderFields, local: DateTime, o: Offset) -> Built
 fn is_day(f: BuilderFields) -> bool
     ensures { result ≡ is_day f }
 {
-    calendar::is_date(Date {
-        year: f.year,
-        month: f.month,
-        day: f.day,
-    })
+    calendar::is_date(given_time(f).date())
 }
 
 // Whether it is a local year.
 fn is_year(year: u32) -> bool
     ensures { result ≡ is_year year }
 {
-    (1 <= year) & (year <= 9999)
-}
-
-// The fields to the minute, as they were given.
-fn given_time(f: BuilderFields) -> DateTime
-    ensures { result ≡ given_time f }
-{
-    DateTime {
-        year: f.year,
-        month: f.month,
-        day: f.day,
-        hour: f.hour,
-        minute: f.minute,
-    }
+    (1..=9999).contains(&year)
 }
 
 // From local fields.
-pub(crate) fn from_fields(f: BuilderFields, o: Offset) -> Built
-    requires { InBounds f × WithinDay o }
-    ensures { result ≡ build_answer (first_of (local_checks f)) (pair_at f (given_time f) o) }
+pub(crate) fn from_fields(
+    f: BuilderFields,
+    offset: Option<OffsetMinutes>,
+) -> Result<Timestamp, Refusal>
+    requires { InBounds f × WithinDay offset }
+    ensures { result ≡ result_and (first_of (local_checks f)) (Ok (pair_at f (given_time f) offset)) }
 {
-    let year = is_year(f.year);
-    let day = is_day(f);
-    if !year {
-        return Built::refused(refusal::LOCAL_YEAR);
+    if !is_year(f.year) {
+        return Err(Refusal::LocalYear);
     }
-    if !day {
-        return Built::refused(refusal::NO_DAY);
+    if !is_day(f) {
+        return Err(Refusal::NoDay);
     }
-    finish(f, given_time(f), o)
+    Ok(finish(f, given_time(f), offset))
 }
 
 // From UTC fields, which an offset moves to local ones.
-pub(crate) fn from_utc_fields(f: BuilderFields, m: OffsetMinutes) -> Built
-    requires { InBounds f × WithinDay (Offset.Known m) }
-    ensures { result ≡ build_answer (first_of (utc_checks f m)) (pair_at f (moved_time f m) (Offset.Known m)) }
+pub(crate) fn from_utc_fields(f: BuilderFields, m: OffsetMinutes) -> Result<Timestamp, Refusal>
+    requires { InBounds f × WithinDay (Some m) }
+    ensures { result ≡ result_and (first_of (utc_checks f m)) (Ok (pair_at f (moved_time f m) (Some m))) }
 {
     if !is_day(f) {
-        return Built::refused(refusal::NO_DAY);
+        return Err(Refusal::NoDay);
     }
     let local = calendar::add_offset_to_utc(given_time(f), m);
     if !is_year(local.year) {
-        return Built::refused(refusal::LOCAL_YEAR);
+        return Err(Refusal::LocalYear);
     }
-    finish(f, local, Offset::Known(m))
+    Ok(finish(f, local, Some(m)))
 }

@@ -1,163 +1,91 @@
-// The stages of a time of day: an hour was given, a minute, a second, a fraction of it.
+// The stages of a time of day: an hour was given, a minute, a second, a fraction of it. Setters have the Rust's names, a line for
+// each field or unit.
 ghost use Rattle.std.specs.Prelude.{◌≡◌};
-ghost use Rattle.ion.specs.Pair.Offset.{offset_minutes};
-ghost use Rattle.ion.specs.Calls.Build.{build_of};
-ghost use Rattle.ion.specs.Calls.Stages.{with_minute, with_offset, with_second, with_fraction};
+ghost use Rattle.ion.specs.Calls.Stages.{with_minute, with_second, with_fraction};
 ghost use Rattle.ion.specs.Pair.Fraction.{milliseconds, microseconds, nanoseconds, nanoseconds_to, decimal};
 
-use crate::building::build;
-use crate::offset::{from_local, from_utc};
-use crate::{HasFractionalSeconds, HasHour, HasMinute, HasOffset, HasSeconds};
-use ion::{BuilderFields, BuilderOffset, Built, Decimal, Fraction, TimestampPrecision};
+use crate::TimestampBuilder;
+use ion::{BuilderFields, Decimal, Fraction, TimestampPrecision};
 
-impl HasHour {
-    pub fn with_minute(self, minute: u32) -> HasMinute
+#[derive(Clone, Copy)]
+pub struct HasHour;
+
+impl TimestampBuilder<HasHour> {
+    pub fn with_minute(self, minute: u32) -> TimestampBuilder<HasMinute>
         ensures { result.fields ≡ with_minute self.fields minute }
     {
-        let fields = self.fields;
-        HasMinute {
-            fields: BuilderFields {
-                precision: TimestampPrecision::HourAndMinute,
-                minute: minute,
-                ..fields
-            },
-        }
-    }
-
-    pub fn with_offset(self, minutes: i32) -> HasOffset
-        ensures { result.fields ≡ with_offset self.fields (BuilderOffset.FromLocalFields (offset_minutes minutes)) }
-    {
-        from_local(self.fields, minutes)
-    }
-
-    pub fn localize_to_offset(self, minutes: i32) -> HasOffset
-        ensures { result.fields ≡ with_offset self.fields (BuilderOffset.FromUtcFields (offset_minutes minutes)) }
-    {
-        from_utc(self.fields, minutes)
-    }
-
-    pub fn build(self) -> Built
-        ensures { result ≡ build_of self.fields }
-    {
-        build(self.fields)
+        TimestampBuilder::new(BuilderFields {
+            precision: TimestampPrecision::HourAndMinute,
+            minute,
+            ..self.fields
+        })
     }
 }
 
-impl HasMinute {
-    pub fn with_second(self, second: u32) -> HasSeconds
+#[derive(Clone, Copy)]
+pub struct HasMinute;
+
+impl TimestampBuilder<HasMinute> {
+    pub fn with_second(self, second: u32) -> TimestampBuilder<HasSeconds>
         ensures { result.fields ≡ with_second self.fields second }
     {
-        let fields = self.fields;
-        HasSeconds {
-            fields: BuilderFields {
-                precision: TimestampPrecision::Second,
-                second: second,
-                ..fields
-            },
-        }
-    }
-
-    pub fn with_offset(self, minutes: i32) -> HasOffset
-        ensures { result.fields ≡ with_offset self.fields (BuilderOffset.FromLocalFields (offset_minutes minutes)) }
-    {
-        from_local(self.fields, minutes)
-    }
-
-    pub fn localize_to_offset(self, minutes: i32) -> HasOffset
-        ensures { result.fields ≡ with_offset self.fields (BuilderOffset.FromUtcFields (offset_minutes minutes)) }
-    {
-        from_utc(self.fields, minutes)
-    }
-
-    pub fn build(self) -> Built
-        ensures { result ≡ build_of self.fields }
-    {
-        build(self.fields)
+        TimestampBuilder::new(BuilderFields {
+            precision: TimestampPrecision::Second,
+            second,
+            ..self.fields
+        })
     }
 }
 
-fn with_fraction(fields: BuilderFields, x: Fraction) -> HasFractionalSeconds
-    ensures { result.fields ≡ with_fraction fields x }
-{
-    HasFractionalSeconds {
-        fields: BuilderFields {
+#[derive(Clone, Copy)]
+pub struct HasSeconds;
+
+impl TimestampBuilder<HasSeconds> {
+    fn with_fraction(self, x: Fraction) -> TimestampBuilder<HasFractionalSeconds>
+        ensures { result.fields ≡ with_fraction self.fields x }
+    {
+        TimestampBuilder::new(BuilderFields {
             attoseconds: x.attoseconds,
             digits: x.digits,
-            ..fields
-        },
+            ..self.fields
+        })
     }
-}
 
-impl HasSeconds {
-    pub fn with_milliseconds(self, n: u32) -> HasFractionalSeconds
+    pub fn with_milliseconds(self, n: u32) -> TimestampBuilder<HasFractionalSeconds>
         ensures { result.fields ≡ with_fraction self.fields (milliseconds n) }
     {
-        with_fraction(self.fields, fraction::from_milliseconds(n))
+        self.with_fraction(fraction::from_milliseconds(n))
     }
 
-    pub fn with_microseconds(self, n: u32) -> HasFractionalSeconds
+    pub fn with_microseconds(self, n: u32) -> TimestampBuilder<HasFractionalSeconds>
         ensures { result.fields ≡ with_fraction self.fields (microseconds n) }
     {
-        with_fraction(self.fields, fraction::from_microseconds(n))
+        self.with_fraction(fraction::from_microseconds(n))
     }
 
-    pub fn with_nanoseconds(self, n: u32) -> HasFractionalSeconds
+    pub fn with_nanoseconds(self, n: u32) -> TimestampBuilder<HasFractionalSeconds>
         ensures { result.fields ≡ with_fraction self.fields (nanoseconds n) }
     {
-        with_fraction(self.fields, fraction::from_nanoseconds(n))
+        self.with_fraction(fraction::from_nanoseconds(n))
     }
 
     // Nanoseconds cut toward zero to a number of digits.
-    pub fn with_nanoseconds_and_precision(self, n: u32, digits: u32) -> HasFractionalSeconds
+    pub fn with_nanoseconds_and_precision(
+        self,
+        n: u32,
+        digits: u32,
+    ) -> TimestampBuilder<HasFractionalSeconds>
         ensures { result.fields ≡ with_fraction self.fields (nanoseconds_to n digits) }
     {
-        with_fraction(
-            self.fields,
-            fraction::from_nanoseconds_and_precision(n, digits),
-        )
+        self.with_fraction(fraction::from_nanoseconds_and_precision(n, digits))
     }
 
-    pub fn with_fractional_seconds(self, d: Decimal) -> HasFractionalSeconds
+    pub fn with_fractional_seconds(self, d: Decimal) -> TimestampBuilder<HasFractionalSeconds>
         ensures { result.fields ≡ with_fraction self.fields (decimal d) }
     {
-        with_fraction(self.fields, fraction::from_decimal(d))
-    }
-
-    pub fn with_offset(self, minutes: i32) -> HasOffset
-        ensures { result.fields ≡ with_offset self.fields (BuilderOffset.FromLocalFields (offset_minutes minutes)) }
-    {
-        from_local(self.fields, minutes)
-    }
-
-    pub fn localize_to_offset(self, minutes: i32) -> HasOffset
-        ensures { result.fields ≡ with_offset self.fields (BuilderOffset.FromUtcFields (offset_minutes minutes)) }
-    {
-        from_utc(self.fields, minutes)
-    }
-
-    pub fn build(self) -> Built
-        ensures { result ≡ build_of self.fields }
-    {
-        build(self.fields)
+        self.with_fraction(fraction::from_decimal(d))
     }
 }
 
-impl HasFractionalSeconds {
-    pub fn with_offset(self, minutes: i32) -> HasOffset
-        ensures { result.fields ≡ with_offset self.fields (BuilderOffset.FromLocalFields (offset_minutes minutes)) }
-    {
-        from_local(self.fields, minutes)
-    }
-
-    pub fn localize_to_offset(self, minutes: i32) -> HasOffset
-        ensures { result.fields ≡ with_offset self.fields (BuilderOffset.FromUtcFields (offset_minutes minutes)) }
-    {
-        from_utc(self.fields, minutes)
-    }
-
-    pub fn build(self) -> Built
-        ensures { result ≡ build_of self.fields }
-    {
-        build(self.fields)
-    }
-}
+#[derive(Clone, Copy)]
+pub struct HasFractionalSeconds;

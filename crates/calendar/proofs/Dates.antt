@@ -3,10 +3,11 @@ use mathlib.Core.Path.{◌≡◌, refl, sym}
 use mathlib.Core.Logic.{◌⊎◌, inl, inr}
 use mathlib.Core.Bool.{Bool, true, false, ◌&&◌, and-true, and-false}
 use Prim.Native.Nat.{ℕ, ◌+◌, ◌-◌, ◌≤◌, ◌<◌}
-use native.Mathlib.Decide.{dec_le, dec_lt}
+use native.Mathlib.Decide.{dec_le}
 use native.Mathlib.Omega.{arith}
 use lib.Dec.{leb}
 use borrow.Author.Tests.{le-leb, lt-leb}
+use Rattle.std.proofs.lemmas.Bool.{cases_order}
 use Rattle.places.proofs.Decides.{Decides, le_decides, ◌and◌}
 use Rattle.ion.specs.Calendar.Dates.{is_leap, month_length_of, month_length, year_length, sum_below}
 use Rattle.ion.specs.Calendar.Dates.{month_start, day_number, IsDate, Earlier}
@@ -91,27 +92,19 @@ day_number_mono s t p q (inr (e, inr (f, l))) = rw (← e, ← f) (omega arith)
 
 -- of two dates one is earlier, or they are the same
 pub date_order : (s t : Date) → Earlier s t ⊎ ((s ≡ t) ⊎ Earlier t s)
-date_order s t = go (order s.year t.year) (order s.month t.month) (order s.day t.day)
+date_order s t = go (cases_order s.year t.year) (cases_order s.month t.month) (cases_order s.day t.day)
   where
     Order : ℕ → ℕ → Type 0
-    Order a b = (a < b) ⊎ ((a ≡ b) ⊎ (b < a))
-
-    order : (a b : ℕ) → Order a b
-    order a b = by (dec_lt a b) (dec_lt b a)
-      where
-        by : Dec (a < b) → Dec (b < a) → Order a b
-        by (yes h) k = inl h
-        by (no h) (yes k) = inr (inr k)
-        by (no h) (no k) = inr (inl (omega arith))
+    Order a b = (a ≡ b) ⊎ ((a < b) ⊎ (b < a))
 
     go : Order s.year t.year → Order s.month t.month → Order s.day t.day → Earlier s t ⊎ ((s ≡ t) ⊎ Earlier t s)
-    go (inl h) m d = inl (inl h)
+    go (inr (inl h)) m d = inl (inl h)
     go (inr (inr h)) m d = inr (inr (inl h))
-    go (inr (inl e)) (inl h) d = inl (inr (e, inl h))
-    go (inr (inl e)) (inr (inr h)) d = inr (inr (inr (sym e, inl h)))
-    go (inr (inl e)) (inr (inl f)) (inl h) = inl (inr (e, inr (f, h)))
-    go (inr (inl e)) (inr (inl f)) (inr (inr h)) = inr (inr (inr (sym e, inr (sym f, h))))
-    go (inr (inl e)) (inr (inl f)) (inr (inl g)) = inr (inl (λ i. record { year = e i; month = f i; day = g i }))
+    go (inl e) (inr (inl h)) d = inl (inr (e, inl h))
+    go (inl e) (inr (inr h)) d = inr (inr (inr (sym e, inl h)))
+    go (inl e) (inl f) (inr (inl h)) = inl (inr (e, inr (f, h)))
+    go (inl e) (inl f) (inr (inr h)) = inr (inr (inr (sym e, inr (sym f, h))))
+    go (inl e) (inl f) (inl g) = inr (inl (λ i. record { year = e i; month = f i; day = g i }))
 
 -- the number tells the date
 pub day_number_inj : (s t : Date) → IsDate s → IsDate t → day_number s ≡ day_number t → s ≡ t

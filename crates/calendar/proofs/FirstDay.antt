@@ -7,8 +7,9 @@ use native.Mathlib.Omega.{arith}
 use lib.Dec.{lit<}
 use lib.IntN.{ℤ, pos, negsuc, nat_abs, ◌+ℤ◌}
 use borrow.Author.Tests.{lt-ltb, le-ltb}
+use borrow.Author.Differences.{up, down, sum_is_lem}
 use Rattle.integers.specs.Floor.{floor_div}
-use Rattle.integers.proofs.Parts.{up, down, apart, nat_abs_parts, add_parts, floor_div_parts}
+use Rattle.integers.proofs.Parts.{apart, nat_abs_parts, floor_div_parts}
 use Rattle.ion.specs.Calendar.Dates.{prev_day}
 use Rattle.ion.specs.Calendar.Shift.{IsDateTime, date_of, minute_number, repeat, add_days, shifted}
 use Rattle.ion.specs.declared.Date.{Date}
@@ -40,7 +41,7 @@ pub year_zero_back : (t : DateTime) (z : ℤ) → t.hour < 24 → t.minute < 60 
 year_zero_back t z h m e k =
     let total = pos (t.hour * 60 + t.minute) +ℤ z in
     let d = floor_div_parts total 1440 (lit< tt) in
-    no_days_on (date_of t) (floor_div total 1440) (omega (arith, d, add_parts (pos (t.hour * 60 + t.minute)) z, apart total)) e
+    no_days_on (date_of t) (floor_div total 1440) (omega (arith, d, sum_is_lem (pos (t.hour * 60 + t.minute)) z, apart total)) e
 
 pub moved_room : (t : DateTime) (z : ℤ) → IsDateTime t → nat_abs z < 1440 → 1 ≤ (shifted t z).year → down z ≤ minute_number t
 moved_room t z p w y = go (dec_le (down z) (minute_number t)) (dec_le 1 t.year)

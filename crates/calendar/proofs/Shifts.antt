@@ -2,15 +2,18 @@
 use mathlib.Core.Path.{◌≡◌, refl, sym, ap, ◌∙◌}
 use mathlib.Core.Bool.{true}
 use Prim.Native.Nat.{ℕ, zero, suc, ◌+◌, ◌*◌, ◌≤◌, ◌<◌}
+use native.Mathlib.Nat.{div-eq_of_lt, mod-eq_of_lt}
 use native.Mathlib.Decide.{dec_le}
 use native.Mathlib.Omega.{arith}
 use lib.Dec.{lit<}
 use lib.IntN.{ℤ, pos, negsuc, nat_abs, neg_ℤ, ◌+ℤ◌, neg_ℤ-neg_ℤ}
-use lib.Signed.{lt_z}
-use Rattle.integers.specs.Floor.{floor_div, ◌plus◌}
-use Rattle.integers.proofs.Parts.{up, down, apart, add_parts, floor_parts, floor_mod_lt, plus_parts, neg_parts, nat_abs_parts, lt_parts}
+use lib.Signed.{lt_z, ◌≤ℤ◌, ◌<ℤ◌}
+use borrow.Author.Differences.{up, down, sum_is_lem, neg_is, lt-true}
+use Rattle.std.proofs.lemmas.Int.{ints}
+use Rattle.integers.specs.Floor.{floor_div, floor_mod, ◌plus◌}
+use Rattle.integers.proofs.Parts.{apart, floor_parts, floor_mod_lt, plus_parts, nat_abs_parts}
 use Rattle.ion.specs.Calendar.Dates.{day_number, IsDate, next_day, prev_day, year_length}
-use Rattle.ion.specs.Calendar.Shift.{date_of, IsDateTime, minute_number, repeat, add_days, shifted}
+use Rattle.ion.specs.Calendar.Shift.{date_of, IsDateTime, minute_number, repeat, add_days, at_minute, shifted}
 use Rattle.ion.specs.declared.Date.{Date}
 use Rattle.ion.specs.declared.DateTime.{DateTime}
 use Rattle.calendar.proofs.Sums.{sum_past}
@@ -42,9 +45,17 @@ add_days_lem t (negsuc n) p = let h = backward t (suc n) p in (h.0, λ l. omega 
 
 -- -1 goes to the day before
 pub back : (t : Date) (z : ℤ) → nat_abs z ≤ 1 → lt_z z (pos 0) ≡ true → add_days t z ≡ prev_day t
-back t (pos n) h e = absurd (omega (arith, lt_parts (pos n) (pos 0) e))
+back t (pos n) h e = absurd (omega (arith, lt-true (pos n) (pos 0) e))
 back t (negsuc zero) h e = refl
 back t (negsuc (suc n)) h e = absurd (omega arith)
+
+-- minutes that are not below 0 and less than a day stay in it
+pub same_day : (t : Date) (z : ℤ) → (pos 0 ≤ℤ z) × (z <ℤ pos 1440)
+    → at_minute t (nat_abs z) ≡ at_minute (add_days t (floor_div z 1440)) (floor_mod z 1440)
+same_day t (pos n) h =
+    let k : n < 1440 = omega (arith, ints, h.1) in
+    rw (div-eq_of_lt k, mod-eq_of_lt k)
+same_day t (negsuc n) h = absurd (omega (arith, ints, h.0))
 
 -- ---- minutes
 
@@ -76,21 +87,21 @@ module _ (t : DateTime) (z : ℤ) (p : IsDateTime t) where
 
   -- the days to go back are there, where the minutes are
   enough : down z ≤ minute_number t → down days ≤ day_number (date_of t)
-  enough l = omega (arith, add_parts (pos time) z, floor_parts total 1440 (lit< tt), apart days, floor_mod_lt total 1440 (lit< tt))
+  enough l = omega (arith, sum_is_lem (pos time) z, floor_parts total 1440 (lit< tt), apart days, floor_mod_lt total 1440 (lit< tt))
 
   shifted_minutes : down z ≤ minute_number t → minute_number (shifted t z) ≡ minute_number t plus z
   shifted_minutes l =
       let e = (add_days_lem (date_of t) days p.date).1 (enough l) in
-      omega (arith, add_parts (pos time) z, floor_parts total 1440 (lit< tt), e, plus_parts (minute_number t) z l)
+      omega (arith, sum_is_lem (pos time) z, floor_parts total 1440 (lit< tt), e, plus_parts (minute_number t) z l)
 
 pub shift_back : (t : DateTime) (z : ℤ) → IsDateTime t → down z ≤ minute_number t → shifted (shifted t z) (neg_ℤ z) ≡ t
 shift_back t z p l =
     let s = shifted_is t z p in
     let e = shifted_minutes t z p l in
     let f = plus_parts (minute_number t) z l in
-    let k : down (neg_ℤ z) ≤ minute_number (shifted t z) = omega (arith, e, f, neg_parts z) in
+    let k : down (neg_ℤ z) ≤ minute_number (shifted t z) = omega (arith, e, f, neg_is z) in
     minute_number_inj (shifted (shifted t z) (neg_ℤ z)) t (shifted_is (shifted t z) (neg_ℤ z) s) p
-    (shifted_minutes (shifted t z) (neg_ℤ z) s k ∙ omega (arith, e, f, plus_parts (minute_number (shifted t z)) (neg_ℤ z) k, neg_parts z))
+    (shifted_minutes (shifted t z) (neg_ℤ z) s k ∙ omega (arith, e, f, plus_parts (minute_number (shifted t z)) (neg_ℤ z) k, neg_is z))
 
 -- against an offset and with it again
 pub shift_forth : (t : DateTime) (z : ℤ) → IsDateTime t → down (neg_ℤ z) ≤ minute_number t → shifted (shifted t (neg_ℤ z)) z ≡ t

@@ -1,4 +1,5 @@
-// The number of a day, counted from 0000-01-01, and the days after and before it.
+// The number of a day, counted from 0000-01-01, and the days after and before it. That a date is one stays a fact in contracts: as
+// a type it would keep `is_date` and the builder from holding a date that is none.
 ghost use Rattle.std.specs.Prelude.{◌≡◌, ◌≤◌};
 ghost use Rattle.ion.specs.Calendar.Dates.{IsDate, year_start, month_start, day_number, next_day, prev_day};
 
@@ -25,13 +26,11 @@ pub fn month_start(year: u32, month: u32) -> u64
     ensures { result ≡ month_start year month }
 {
     let start = MONTH_STARTS[month as usize] as u64;
-    if month <= 2 {
-        return start;
+    if 2 < month && is_leap(year) {
+        start + 1
+    } else {
+        start
     }
-    if is_leap(year) {
-        return start + 1;
-    }
-    start
 }
 
 #[tactic(auto, using(crate::proofs::Dates::dates))]
@@ -49,25 +48,23 @@ pub fn next_day(date: Date) -> Date
     requires { (date.year ≤ 10000) × IsDate date }
     ensures { result ≡ next_day date }
 {
-    let days = month_length(date.year, date.month);
-    if date.day < days {
-        return Date {
-            year: date.year,
-            month: date.month,
+    if date.day < month_length(date.year, date.month) {
+        Date {
             day: date.day + 1,
-        };
-    }
-    if date.month < 12 {
-        return Date {
-            year: date.year,
+            ..date
+        }
+    } else if date.month < 12 {
+        Date {
             month: date.month + 1,
             day: 1,
-        };
-    }
-    Date {
-        year: date.year + 1,
-        month: 1,
-        day: 1,
+            ..date
+        }
+    } else {
+        Date {
+            year: date.year + 1,
+            month: 1,
+            day: 1,
+        }
     }
 }
 
@@ -78,30 +75,22 @@ pub fn prev_day(date: Date) -> Date
     ensures { result ≡ prev_day date }
 {
     if 1 < date.day {
-        return Date {
-            year: date.year,
-            month: date.month,
+        Date {
             day: date.day - 1,
-        };
-    }
-    if 1 < date.month {
-        let days = month_length(date.year, date.month - 1);
-        return Date {
-            year: date.year,
-            month: date.month - 1,
-            day: days,
-        };
-    }
-    if date.year == 0 {
-        return Date {
-            year: 0,
+            ..date
+        }
+    } else if 1 < date.month {
+        let month = date.month - 1;
+        Date {
+            month,
+            day: month_length(date.year, month),
+            ..date
+        }
+    } else {
+        Date {
+            year: date.year.saturating_sub(1),
             month: 12,
             day: 31,
-        };
-    }
-    Date {
-        year: date.year - 1,
-        month: 12,
-        day: 31,
+        }
     }
 }

@@ -8,13 +8,7 @@ use ion::Date;
 pub fn is_leap(year: u32) -> bool
     ensures { result ≡ is_leap year }
 {
-    if year % 4 != 0 {
-        return false;
-    }
-    if year % 100 != 0 {
-        return true;
-    }
-    year % 400 == 0
+    year % 4 == 0 && (year % 100 != 0 || year % 400 == 0)
 }
 
 // By month, 1 being January: the days in a year that is no leap year.
@@ -23,7 +17,7 @@ const MONTH_LENGTHS: [u8; 13] = [0, 31, 28, 31, 30, 31, 30, 31, 31, 30, 31, 30, 
 fn is_month(month: u32) -> bool
     ensures { result ≡ is_month month }
 {
-    (1 <= month) & (month <= 12)
+    (1..=12).contains(&month)
 }
 
 // The length of a month from 1 to 12, which is never 0.
@@ -32,13 +26,11 @@ pub(crate) fn month_length(year: u32, month: u32) -> u32
     requires { (1 ≤ month) × (month ≤ 12) }
     ensures { result ≡ month_length year month }
 {
-    if month != 2 {
-        return MONTH_LENGTHS[month as usize] as u32;
+    match month {
+        2 if is_leap(year) => 29,
+        2 => 28,
+        _ => MONTH_LENGTHS[month as usize] as u32,
     }
-    if is_leap(year) {
-        return 29;
-    }
-    28
 }
 
 // What a date picker is told: 0 for a month outside 1 to 12 and for a year above 10000.
@@ -46,10 +38,11 @@ pub(crate) fn month_length(year: u32, month: u32) -> u32
 pub fn days_in_month(year: u32, month: u32) -> u32
     ensures { result ≡ days_in_month year month }
 {
-    if is_month(month) & (year <= 10000) {
-        return month_length(year, month);
+    if is_month(month) && year <= 10000 {
+        month_length(year, month)
+    } else {
+        0
     }
-    0
 }
 
 // Whether there is such a day. Every month has 28 days: up to there the month's length is not asked.
@@ -57,13 +50,6 @@ pub fn days_in_month(year: u32, month: u32) -> u32
 pub fn is_date(date: Date) -> bool
     ensures { result ≡ is_date date }
 {
-    let month = date.month;
-    let day = date.day;
-    if day <= 28 {
-        return is_month(month) & (1 <= day);
-    }
-    if !is_month(month) {
-        return false;
-    }
-    day <= month_length(date.year, month)
+    let Date { year, month, day } = date;
+    is_month(month) && 1 <= day && (day <= 28 || day <= month_length(year, month))
 }

@@ -12,22 +12,14 @@ use ion::{Date, DateTime};
 pub fn floor_days(minutes: i32) -> i32
     ensures { result ≡ floor_div minutes 1440 }
 {
-    let days = minutes / 1440;
-    if minutes % 1440 < 0 {
-        return days - 1;
-    }
-    days
+    minutes.div_euclid(1440)
 }
 
 // The minutes past the last midnight.
 pub fn minute_of_day(minutes: i32) -> u32
     ensures { result ≡ floor_mod minutes 1440 }
 {
-    let rest = minutes % 1440;
-    if rest < 0 {
-        return (rest + 1440) as u32;
-    }
-    rest as u32
+    minutes.rem_euclid(1440) as u32
 }
 
 // The date a day later, the same or a day earlier.
@@ -37,27 +29,25 @@ fn add_days(date: Date, days: i32) -> Date
     ensures { result ≡ add_days date days }
 {
     if days < 0 {
-        return prev_day(date);
+        prev_day(date)
+    } else if 0 < days {
+        next_day(date)
+    } else {
+        date
     }
-    if 0 < days {
-        return next_day(date);
-    }
-    date
 }
 
-// The date and time a number of minutes after a date's midnight, or before it.
-fn from_midnight(date: Date, minutes: i32) -> DateTime
-    requires { (nat_abs (floor_div minutes 1440) ≤ 1) × (date.year ≤ 10000) × IsDate date }
-    ensures { result ≡ at_minute (add_days date (floor_div minutes 1440)) (floor_mod minutes 1440) }
+// A date with the time of a minute of its day.
+fn at_minute(date: Date, minute: u32) -> DateTime
+    ensures { result ≡ at_minute date minute }
 {
-    let moved = add_days(date, floor_days(minutes));
-    let time = minute_of_day(minutes);
+    let Date { year, month, day } = date;
     DateTime {
-        year: moved.year,
-        month: moved.month,
-        day: moved.day,
-        hour: time / 60,
-        minute: time % 60,
+        year,
+        month,
+        day,
+        hour: minute / 60,
+        minute: minute % 60,
     }
 }
 
@@ -67,23 +57,9 @@ pub fn add_offset_to_utc(t: DateTime, offset: OffsetMinutes) -> DateTime
     ensures { result ≡ shifted t offset.0 }
 {
     let total = (t.hour * 60 + t.minute) as i32 + offset.minutes();
-    let date = Date {
-        year: t.year,
-        month: t.month,
-        day: t.day,
-    };
-    if total < 0 {
-        return from_midnight(date, total);
-    }
-    if 1440 <= total {
-        return from_midnight(date, total);
-    }
-    let time = total as u32;
-    DateTime {
-        year: t.year,
-        month: t.month,
-        day: t.day,
-        hour: time / 60,
-        minute: time % 60,
+    if (0..1440).contains(&total) {
+        at_minute(t.date(), total as u32)
+    } else {
+        at_minute(add_days(t.date(), floor_days(total)), minute_of_day(total))
     }
 }

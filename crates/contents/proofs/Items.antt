@@ -1,57 +1,52 @@
 -- The contents of bytes, item by item: at their end, after an item, and where one is refused; and what so holds of all contents.
 -- Assumes nothing.
-use mathlib.Core.Path.{◌≡◌, refl, sym, ap, ap₂, ◌∙◌, subst}
-use mathlib.Core.Bool.{Bool, true, false, cond}
+use mathlib.Core.Path.{◌≡◌, refl, sym, ap, subst}
 use mathlib.Core.List.{List, [], ◌∷◌, ◌++◌, append-nil}
 use Prim.Native.Nat.{ℕ, zero, suc, ◌≤◌, ◌<◌}
 use native.Mathlib.Omega.{arith}
-use borrow.Author.Tests.{eqb-true, eqb-false}
-use lib.Dec.{eqb}
 use lib.ListN.{length, drop, length-drop}
-use Rattle.ion.specs.Calls.Answered.{answered}
-use Rattle.ion.specs.Calls.Contents.{Reader, Contents, contents_with, before, contents_from, contents}
-use Rattle.ion.proofs.Answers.{answered_zero, answered_refused}
+use Rattle.std.specs.Prelude.{Result, Ok, Err}
+use Rattle.ion.specs.Calls.Contents.{Reader, Contents, contents_with, before, contents_after, contents_from, contents}
+use Rattle.ion.specs.declared.refusal.Refusal.{Refusal}
 use Rattle.contents.proofs.Readers.{Advances, ReadsAs}
 
 -- items before what follows them
 abbrev pub all_before : {A : Type 0} → List A → Contents A → Contents A
-all_before xs c = contents_with (xs ++ c.items) c.number
+all_before xs c = contents_with (xs ++ c.items) c.ending
 
-pub before_none : {A : Type 0} (xs : List A) (n : ℕ) → all_before xs (contents_with [] n) ≡ contents_with xs n
-before_none {A} xs n = ap (λ (l : List A). contents_with l n) (append-nil xs)
+pub before_none : {A : Type 0} (xs : List A) (e : Result Unit Refusal) → all_before xs (contents_with [] e) ≡ contents_with xs e
+before_none {A} xs e = ap (λ (l : List A). contents_with l e) (append-nil xs)
 
--- what is answered where nothing is refused matters only there
-accepted_same : {A : Type 0} (n : ℕ) {a b : A} (refused : ℕ → A) → (n ≡ 0 → a ≡ b) → answered n a refused ≡ answered n b refused
-accepted_same n {a} {b} refused h = go (eqb n 0) refl
-  where
-    go : (t : Bool) → eqb n 0 ≡ t → cond t a (refused n) ≡ cond t b (refused n)
-    go true e = h (eqb-true n 0 e)
-    go false e = refl
+-- what follows an item matters only where there is one
+after_same : {A : Type 0} (r : Result (A × ℕ) Refusal) {f g : ℕ → Contents A} → ((x : A) (n : ℕ) → r ≡ Ok (x, n) → f n ≡ g n)
+    → contents_after r f ≡ contents_after r g
+after_same (Ok (x, n)) h = ap (before x) (h x n refl)
+after_same (Err r) h = refl
 
 module _ {A : Type 0} (read : Reader A) where
   -- ---- the end of the bytes
 
-  from_end : (n : ℕ) → contents_from read n [] ≡ contents_with [] 0
+  from_end : (n : ℕ) → contents_from read n [] ≡ contents_with [] (Ok tt)
   unfolding contents_from
   from_end zero = refl
   from_end (suc n) = refl
 
-  pub contents_end : contents read [] ≡ contents_with [] 0
+  pub contents_end : contents read [] ≡ contents_with [] (Ok tt)
   unfolding contents
   contents_end = from_end 0
 
   -- ---- an item that is refused
 
-  pub contents_stop : (s : List ℕ) {m : ℕ} → 0 < length s → read.number s ≡ m → (m ≡ 0 → ⊥) → contents read s ≡ contents_with [] m
+  pub contents_stop : (s : List ℕ) {r : Refusal} → 0 < length s → read s ≡ Err r → contents read s ≡ contents_with [] (Err r)
   unfolding contents contents_from
-  contents_stop [] h e z = absurd (omega arith)
-  contents_stop (b ∷ s) h e z = answered_refused (read.number (b ∷ s)) _ (contents_with []) (λ q. z (sym e ∙ q)) ∙ ap (contents_with []) e
+  contents_stop [] h e = absurd (omega arith)
+  contents_stop (b ∷ s) h e = rw e refl
 
 module _ {A : Type 0} {read : Reader A} (a : Advances read) where
   -- ---- an item and what follows it
 
-  shorter : (s : List ℕ) → read.number s ≡ 0 → length (drop (read.taken s) s) < length s
-  shorter s e = omega (arith, length-drop (read.taken s) s, a.some s e, a.within s e)
+  shorter : (s : List ℕ) (x : A) (n : ℕ) → ReadsAs read s x n → length (drop n s) < length s
+  shorter s x n e = omega (arith, length-drop n s, a.some s x n e, a.within s x n e)
 
   -- a larger limit than the number of bytes makes no difference
   from_fuel : (m n : ℕ) (s : List ℕ) → length s ≤ m → length s ≤ n → contents_from read m s ≡ contents_from read n s
@@ -61,37 +56,29 @@ module _ {A : Type 0} {read : Reader A} (a : Advances read) where
   from_fuel (suc m) n [] h k = sym (from_end read n)
   from_fuel (suc m) zero (b ∷ s) h k = absurd (omega arith)
   from_fuel (suc m) (suc n) (b ∷ s) h k =
-      let t = drop (read.taken (b ∷ s)) (b ∷ s) in
-      accepted_same (read.number (b ∷ s)) (contents_with [])
-      (λ e. ap (before (read.item (b ∷ s))) (from_fuel m n t (omega (arith, shorter (b ∷ s) e)) (omega (arith, shorter (b ∷ s) e))))
+      after_same (read (b ∷ s))
+      (λ x t e. from_fuel m n (drop t (b ∷ s)) (omega (arith, shorter (b ∷ s) x t e)) (omega (arith, shorter (b ∷ s) x t e)))
 
-  pub contents_next : (s : List ℕ) {x : A} {n : ℕ} → ReadsAs read s x n → contents read s ≡ before x (contents read (drop n s))
+  pub contents_next : (s : List ℕ) (x : A) (n : ℕ) → ReadsAs read s x n → contents read s ≡ before x (contents read (drop n s))
   unfolding contents contents_from
-  contents_next [] r = absurd (omega (arith, shorter [] r.number))
-  contents_next (b ∷ s) {x} {n} r =
-      let t = drop (read.taken (b ∷ s)) (b ∷ s) in
-      answered_zero (read.number (b ∷ s)) _ (contents_with []) r.number
-      ∙ ap₂ before r.item
-      (from_fuel (length s) (length t) t (omega (arith, shorter (b ∷ s) r.number)) (omega arith))
-      ∙ ap (λ (k : ℕ). before x (contents read (drop k (b ∷ s)))) r.taken
+  contents_next [] x n e = absurd (omega (arith, shorter [] x n e))
+  contents_next (b ∷ s) x n e =
+      let t = drop n (b ∷ s) in
+      rw e (ap (before x) (from_fuel (length s) (length t) t (omega (arith, shorter (b ∷ s) x n e)) (omega arith)))
 
   -- ---- what holds of the contents of any bytes
 
-  module _ (P : List ℕ → Contents A → Type 0) (end : P [] (contents_with [] 0))
-      (stop : (s : List ℕ) → (read.number s ≡ 0 → ⊥) → P s (contents_with [] (read.number s)))
-      (next : (s : List ℕ) (c : Contents A) → read.number s ≡ 0 → P (drop (read.taken s) s) c → P s (before (read.item s) c)) where
+  module _ (P : List ℕ → Contents A → Type 0) (end : P [] (contents_with [] (Ok tt)))
+      (stop : (s : List ℕ) (r : Refusal) → read s ≡ Err r → P s (contents_with [] (Err r)))
+      (next : (s : List ℕ) (c : Contents A) (x : A) (n : ℕ) → ReadsAs read s x n → P (drop n s) c → P s (before x c)) where
     step : (s : List ℕ) → ((t : List ℕ) → length t < length s → P t (contents read t)) → P s (contents read s)
     step [] ih = subst (P []) (sym (contents_end read)) end
-    step (b ∷ s) ih = go (eqb (read.number (b ∷ s)) 0) refl
+    step (b ∷ s) ih = go (read (b ∷ s)) refl
       where
-        go : (t : Bool) → eqb (read.number (b ∷ s)) 0 ≡ t → P (b ∷ s) (contents read (b ∷ s))
-        go true q =
-            let e = eqb-true (read.number (b ∷ s)) 0 q in
-            let l = contents_next (b ∷ s) (record { number = e; item = refl; taken = refl }) in
-            subst (P (b ∷ s)) (sym l) (next (b ∷ s) _ e (ih _ (shorter (b ∷ s) e)))
-        go false q =
-            let e = eqb-false (read.number (b ∷ s)) 0 q in
-            subst (P (b ∷ s)) (sym (contents_stop read (b ∷ s) (omega arith) refl e)) (stop (b ∷ s) e)
+        go : (r : Result (A × ℕ) Refusal) → read (b ∷ s) ≡ r → P (b ∷ s) (contents read (b ∷ s))
+        go (Ok (x, n)) e =
+            subst (P (b ∷ s)) (sym (contents_next (b ∷ s) x n e)) (next (b ∷ s) _ x n e (ih _ (shorter (b ∷ s) x n e)))
+        go (Err r) e = subst (P (b ∷ s)) (sym (contents_stop read (b ∷ s) (omega arith) e)) (stop (b ∷ s) r e)
 
     upto : (n : ℕ) (s : List ℕ) → length s ≤ n → P s (contents read s)
     upto zero s h = step s (λ t l. absurd (omega arith))

@@ -29,3 +29,6 @@ scaled_high n d l = subst (λ (k : ℕ). k ≤ n * scale d) (whole d) (mul-le-mu
 
 pub scaled_low : (n d : ℕ) → n < 10 ^ min d 18 → n * scale d < 10 ^ 18
 scaled_low n d l = subst (λ (k : ℕ). n * scale d < k) (whole d) (mul-lt-mul_of_pos_right l (scale_pos d))
+
+-- for the code
+pub ruleset scaled = (cap_high, cap_low, scaled_high, scaled_low)

@@ -37,3 +37,8 @@ twice n d h l =
     go (no k) =
         let twenty : n < 10 ^ 20 = lt_trans h (lit< tt) in
         none_left n 20 (18 + min (d - 18) 18) twenty (omega arith) ∙ sym (none_left n 20 (min d 20) twenty (omega arith))
+
+-- for the code
+pub ruleset quotients = (power_pos, twice)
+
+pub ruleset decimals = (up_to_lem, past)

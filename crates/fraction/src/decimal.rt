@@ -10,36 +10,37 @@ use ion::{Decimal, Fraction, MAX_ATTOSECONDS};
 fn digits_of(exponent: i64) -> u64
     ensures { result ≡ digits_of exponent }
 {
-    if exponent < 0 {
-        return integers::unsigned_abs(exponent);
-    }
-    0
+    integers::unsigned_abs(exponent.min(0))
 }
 
 // n without its last digits; no n has more than 20.
+#[tactic(auto, using(crate::proofs::Quotients::quotients))]
 fn quotient(n: u64, digits: u64) -> u64
     ensures { result ≡ n / 10 ^ min digits 20 }
 {
     if digits <= 18 {
-        return n / power(digits);
+        n / power(digits)
+    } else {
+        n / MAX_ATTOSECONDS / power(digits - 18)
     }
-    n / MAX_ATTOSECONDS / power(digits - 18)
 }
 
 // n times 10^-digits, in attoseconds.
+#[tactic(auto, using(crate::proofs::Quotients::decimals))]
 fn attoseconds_of(n: u64, digits: u64) -> u64
     ensures { result ≡ capped (attoseconds_of n digits) }
 {
     if digits <= 18 {
-        return scaled(n, digits);
+        scaled(n, digits)
+    } else {
+        cap(quotient(n, digits - 18))
     }
-    cap(quotient(n, digits - 18))
 }
 
 fn is_below_zero(d: Decimal) -> bool
     ensures { result ≡ below_zero d }
 {
-    d.negative & (d.coefficient != 0)
+    d.negative && d.coefficient != 0
 }
 
 #[tactic(auto, unfolding(ion::specs::Pair::Fraction::capped))]
@@ -47,14 +48,13 @@ pub fn from_decimal(d: Decimal) -> Fraction
     ensures { result ≡ decimal d }
 {
     let digits = digits_of(d.exponent);
-    if is_below_zero(d) {
-        return Fraction {
-            attoseconds: MAX_ATTOSECONDS,
-            digits: digits,
-        };
-    }
+    let attoseconds = if is_below_zero(d) {
+        MAX_ATTOSECONDS
+    } else {
+        attoseconds_of(d.coefficient, digits)
+    };
     Fraction {
-        attoseconds: attoseconds_of(d.coefficient, digits),
-        digits: digits,
+        attoseconds,
+        digits,
     }
 }

@@ -29,28 +29,22 @@ const POWERS: [u64; 19] = [
     MAX_ATTOSECONDS,
 ];
 
-// The attoseconds of one unit of the last of the digits; 1 past the eighteenth.
-pub fn scale(digits: u64) -> u64
-    ensures { result ≡ scale digits }
-{
-    if 18 < digits {
-        return 1;
-    }
-    let i = (18 - digits) as usize;
-    POWERS[i]
-}
-
 // 10^n; 10^18 for an n above 18.
 pub fn power(n: u64) -> u64
     ensures { result ≡ 10 ^ min n 18 }
 {
-    if 18 < n {
-        return MAX_ATTOSECONDS;
-    }
-    scale(18 - n)
+    POWERS[n.min(18) as usize]
+}
+
+// The attoseconds of one unit of the last of the digits; 1 past the eighteenth.
+pub fn scale(digits: u64) -> u64
+    ensures { result ≡ scale digits }
+{
+    power(18_u64.saturating_sub(digits))
 }
 
 // Attoseconds cut toward zero to a number of digits.
+#[tactic(auto, using(crate::proofs::Scales::scale_pos))]
 pub fn cut(attoseconds: u64, digits: u64) -> u64
     ensures { result ≡ cut_to digits attoseconds }
 {

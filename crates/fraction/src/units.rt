@@ -10,20 +10,19 @@ use ion::{Fraction, MAX_ATTOSECONDS};
 pub(crate) fn cap(attoseconds: u64) -> u64
     ensures { result ≡ capped attoseconds }
 {
-    if MAX_ATTOSECONDS <= attoseconds {
-        return MAX_ATTOSECONDS;
-    }
-    attoseconds
+    attoseconds.min(MAX_ATTOSECONDS)
 }
 
-// The attoseconds of n units of the last of the digits.
+// The attoseconds of n units of the last of the digits. By a test and not by saturating_mul, which divides.
+#[tactic(auto, using(crate::proofs::Capped::scaled))]
 pub(crate) fn scaled(n: u64, digits: u64) -> u64
     ensures { result ≡ capped (n * scale digits) }
 {
     if power(digits) <= n {
-        return MAX_ATTOSECONDS;
+        MAX_ATTOSECONDS
+    } else {
+        n * scale(digits)
     }
-    n * scale(digits)
 }
 
 fn units(n: u32, digits: u64) -> Fraction
@@ -31,7 +30,7 @@ fn units(n: u32, digits: u64) -> Fraction
 {
     Fraction {
         attoseconds: scaled(n as u64, digits),
-        digits: digits,
+        digits,
     }
 }
 

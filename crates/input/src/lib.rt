@@ -20,6 +20,7 @@ pub fn read_full<R: Read>(reader: &mut R, buf: &mut [u8]) -> io::Result<usize>
     ensures bytes { IfOk result (λ n. Consumes (R.remaining reader.old) (R.remaining reader.new) (take n buf.new)) }
     ensures end { IfOk result (λ n. n < length buf.new → IsAtEnd (R.remaining reader.new)) }
 {
+    // No iterator gives reads, whose sizes add up; the tries are counted so that the call ends.
     let mut at = 0;
     for _ in 0..u64::MAX {
         if at >= buf.len() {

@@ -1,20 +1,26 @@
--- What a call that makes a check first answers, by the check's number. Assumes nothing.
-use mathlib.Core.Path.{◌≡◌, sym, ap, ◌∙◌}
-use Prim.Native.Nat.{ℕ}
-use borrow.Author.Tests.{eq-eqb, ne_eqb}
-use Rattle.ion.specs.Calls.Answered.{answered}
+-- What a call that makes a check first answers. Assumes nothing.
+use mathlib.Core.Path.{◌≡◌, refl}
+use mathlib.Core.Bool.{true, false≢true}
+use Rattle.std.specs.Prelude.{Result, Ok, Err, is_ok}
+use Rattle.std.specs.Result.{result_and}
+use Rattle.ion.specs.Calls.Answered.{where_ok}
 
-module _ {A : Type 0} (n : ℕ) (a : A) (refused : ℕ → A) where
-  pub answered_zero : n ≡ 0 → answered n a refused ≡ a
-  answered_zero e = simp (eq-eqb n 0 e)
+module _ {A B E : Type 0} where
+  -- what follows a check that passes
+  pub and_ok : (c : Result A E) (r : Result B E) → is_ok c ≡ true → result_and c r ≡ r
+  and_ok (Ok x) r h = refl
+  and_ok (Err e) r h = absurd (false≢true h)
 
-  pub answered_refused : (n ≡ 0 → ⊥) → answered n a refused ≡ refused n
-  answered_refused h = simp (ne_eqb n 0 h)
+  pub where_ok_lem : (c : Result A E) (a b : B) → is_ok c ≡ true → where_ok c a b ≡ a
+  where_ok_lem (Ok x) a b h = refl
+  where_ok_lem (Err e) a b h = absurd (false≢true h)
 
--- the two for a call that has the check's number as r
-module _ {A : Type 0} {n r : ℕ} (a : A) (refused : ℕ → A) (e : r ≡ n) where
-  pub accepted_by : r ≡ 0 → a ≡ answered n a refused
-  accepted_by z = sym (answered_zero n a refused (sym e ∙ z))
+  -- both of two checks
+  pub both_ok : (c : Result A E) (d : Result B E) → is_ok (result_and c d) ≡ true → (is_ok c ≡ true) × (is_ok d ≡ true)
+  both_ok (Ok x) d h = (refl, h)
+  both_ok (Err e) d h = absurd (false≢true h)
 
-  pub refused_by : (r ≡ 0 → ⊥) → refused r ≡ answered n a refused
-  refused_by h = ap refused e ∙ sym (answered_refused n a refused (λ z. h (e ∙ z)))
+module _ {A E : Type 0} where
+  -- an accepted answer is of its value
+  pub ok_is : (c : Result A E) (x : A) → c ≡ Ok x → is_ok c ≡ true
+  ok_is c x e = rw e refl

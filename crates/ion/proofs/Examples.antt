@@ -5,6 +5,10 @@ use mathlib.Core.Bool.{Bool, true}
 use mathlib.Core.List.{List, [], ◌∷◌, ◌++◌, map}
 use mathlib.Core.Path.{◌≡◌, refl}
 use lib.IntN.{ℤ, pos, negsuc}
+use Rattle.std.specs.Prelude.{Result, Ok}
+use Rattle.std.specs.Result.{result_unwrap_or}
+use Rattle.std.specs.declared.cmp.Ordering.{Ordering}
+use Rattle.std.specs.declared.cmp.Ordering.TheVariants.{Equal, Greater}
 use Rattle.places.specs.Places.{places_on, places, count_in, count, place_count, value_from}
 use Rattle.places.specs.Padded.{padded_places}
 use Rattle.ion.specs.Text.Ascii.{ascii}
@@ -15,9 +19,10 @@ use Rattle.ion.specs.Numbers.Decimal.{decimal_bytes}
 use Rattle.ion.specs.Calendar.Dates.{is_leap, month_length_of, sum_below}
 use Rattle.ion.specs.Pair.Offset.{offset_minutes}
 use Rattle.ion.specs.Pair.Word.{word_of, fields_of}
-use Rattle.ion.specs.Pair.Pair.{word_in, packed_pair}
+use Rattle.ion.specs.Pair.Pair.{word_in, packed_pair, no_stamp}
 use Rattle.ion.specs.Pair.Fraction.{capped, milliseconds, nanoseconds}
-use Rattle.ion.specs.Calls.Build.{build_number, build_pair, build_of}
+use Rattle.ion.specs.Calls.Refusal.{number_in}
+use Rattle.ion.specs.Calls.Build.{build_checks, build_pair, build_of}
 use Rattle.ion.specs.Calls.Stages.{with_year, with_month, with_day, with_hour_and_minute, with_second, with_fraction, with_offset}
 use Rattle.ion.specs.Calls.Check.{check_of}
 use Rattle.ion.specs.Calls.Utc.{utc_fields}
@@ -30,7 +35,8 @@ use Rattle.ion.specs.Value.ReadValue.{same, is_body_of, read_body, read_after, r
 use Rattle.ion.specs.declared.BuilderFields.{BuilderFields}
 use Rattle.ion.specs.declared.BuilderOffset.TheVariants.{FromLocalFields}
 use Rattle.ion.specs.declared.Timestamp.{Timestamp}
-use Rattle.ion.specs.declared.Built.{Built}
+use Rattle.ion.specs.declared.Distance.{Distance}
+use Rattle.ion.specs.declared.refusal.Refusal.{Refusal}
 
 -- ---- what a row states
 
@@ -42,9 +48,8 @@ pub data Answer : Type 0 where
   -- a number, a pair and the bytes taken
   value : ℕ → ℕ → ℕ → ℕ → Answer
   -- an order, and whether the two are equal
-  order : ℤ → Bool → Answer
-  -- sign, seconds and attoseconds
-  distance : ℤ → ℕ → ℕ → Answer
+  order : Result Ordering Refusal → Result Bool Refusal → Answer
+  distance : Result Distance Refusal → Answer
 
 -- a point of the scope, what the definitions give, and what the scope states
 pub record Row : Type 0 where
@@ -94,16 +99,16 @@ p8 = minute (date 9999 12 31) 23 59 (negsuc 0)
 -- ---- what the definitions give
 
 stamp : BuilderFields → Timestamp
-stamp f = (build_of f).stamp
+stamp f = result_unwrap_or (build_of f) no_stamp
 
-built_answer : Built → Answer
-built_answer b = pair b.number (word_in b.stamp) b.stamp.attoseconds
+built_answer : Result Timestamp Refusal → Answer
+built_answer b = let s = result_unwrap_or b no_stamp in pair (number_in b) (word_in s) s.attoseconds
 
 built : BuilderFields → Answer
 built f = built_answer (build_of f)
 
 refused : BuilderFields → Answer
-refused f = number (build_of f).number
+refused f = number (number_in (build_of f))
 
 text : BuilderFields → Answer
 text f = bytes (text_of (stamp f))
@@ -113,17 +118,20 @@ written f = bytes (value_of (stamp f))
 
 -- the value with a byte after it, which is not read
 read_back : List ℕ → Answer
-read_back s = let r = read_value (s ++ (0x6f ∷ [])) in value r.number (word_in r.stamp) r.stamp.attoseconds r.taken
+read_back s =
+    let r = read_value (s ++ (0x6f ∷ [])) in
+    let x = result_unwrap_or r (no_stamp, 0) in
+    value (number_in r) (word_in x.0) x.0.attoseconds x.1
 
 -- the stamp, and how many bytes it took
 taken : BuilderFields → ℕ → Answer
 taken f n = value 0 (word_in (stamp f)) (stamp f).attoseconds n
 
 compared : BuilderFields → BuilderFields → Answer
-compared f g = order (cmp_of (stamp f) (stamp g)).order (eq_of (stamp f) (stamp g)).equal
+compared f g = order (cmp_of (stamp f) (stamp g)) (eq_of (stamp f) (stamp g))
 
 apart : BuilderFields → BuilderFields → Answer
-apart f g = let d = distance_of (stamp f) (stamp g) in distance d.sign d.seconds d.attoseconds
+apart f g = distance (distance_of (stamp f) (stamp g))
 
 -- ---- the table
 
@@ -176,8 +184,8 @@ table =
     ∷ row 8 (text p8) (bytes (ascii "9999-12-31T23:59-00:01"))
     ∷ row 8 (written p8) (bytes p8_bytes)
     ∷ row 8 (read_back p8_bytes) (taken p8 8)
-    ∷ row 9 (compared (minute (date 2020 3 1) 23 28 (pos 1439)) (minute (date 2020 2 28) 23 30 (negsuc 1438))) (order (pos 0) true)
-    ∷ row 10 (apart (with_year 2021) (with_year 2020)) (distance (pos 1) 31622400 0)
+    ∷ row 9 (compared (minute (date 2020 3 1) 23 28 (pos 1439)) (minute (date 2020 2 28) 23 30 (negsuc 1438))) (order (Ok Equal) (Ok true))
+    ∷ row 10 (apart (with_year 2021) (with_year 2020)) (distance (Ok (record { order = Greater; seconds = 31622400; attoseconds = 0 })))
     ∷ row 11 (built_answer (check_of (packed_pair 0x0004420000000000 1))) (pair 12 0 0)
     ∷ row 12 (refused (date 1900 2 29)) (number 10)
     ∷ row 12 (refused (date 2000 2 29)) (number 0)
@@ -188,7 +196,7 @@ pub examples : map (λ (r : Row). r.given) table ≡ map (λ (r : Row). r.stated
 unfolding table row date minute sixth at p1 p3 p4 p5 p6 p7 p8 p1_bytes p3_bytes p4_bytes p5_bytes p6_bytes p7_bytes p8_bytes stamp
     built_answer built refused text written read_back taken compared apart places_on places count_in count place_count value_from groups
     varuint scan_from read_var_uint signed_count signed varint read_var_int int_count int read_int decimal_bytes padded_places is_leap
-    month_length_of sum_below word_of fields_of capped build_of build_number build_pair check_of utc_fields count_of cmp_of eq_of
+    month_length_of sum_below word_of fields_of capped build_of build_checks build_pair check_of utc_fields count_of cmp_of eq_of
     distance_of marked fraction_text clock_text minutes_text offset_text fields_text text_of offset_bytes varuints field_count
     fraction_bytes body_from body_of header value_of decode_offset decode_fields decode_fraction filled precision_with decode_body pair_from
     same is_body_of read_body read_after read_length read_value

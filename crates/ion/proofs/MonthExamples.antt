@@ -4,12 +4,14 @@ use Prim.Native.Nat.{ℕ}
 use mathlib.Core.List.{List, [], ◌∷◌, map}
 use mathlib.Core.Path.{◌≡◌, refl}
 use lib.IntN.{ℤ, pos, negsuc}
+use Rattle.std.specs.Result.{result_unwrap_or}
 use Rattle.ion.specs.Calendar.Dates.{is_leap, month_length_of, days_in_month}
 use Rattle.ion.specs.Calendar.Shift.{shifted}
 use Rattle.ion.specs.Pair.Offset.{offset_minutes}
-use Rattle.ion.specs.Pair.Pair.{word_in}
+use Rattle.ion.specs.Pair.Pair.{word_in, no_stamp}
 use Rattle.ion.specs.Pair.Word.{word_of}
-use Rattle.ion.specs.Calls.Build.{build_number, build_pair, build_of}
+use Rattle.ion.specs.Calls.Refusal.{number_in}
+use Rattle.ion.specs.Calls.Build.{build_checks, build_pair, build_of}
 use Rattle.ion.specs.Calls.Stages.{with_year, with_month, with_day, with_hour_and_minute, with_offset}
 use Rattle.ion.specs.declared.BuilderOffset.TheVariants.{FromUtcFields}
 
@@ -51,7 +53,7 @@ from_utc : ℕ → ℕ → ℕ → ℕ → ℕ → ℤ → Answer
 from_utc y mo d h mi z =
     let f = with_hour_and_minute (with_day (with_month (with_year y) mo) d) h mi in
     let b = build_of (with_offset f (FromUtcFields (offset_minutes z))) in
-    built b.number (word_in b.stamp)
+    built (number_in b) (word_in (result_unwrap_or b no_stamp))
 
 -- ---- the table
 
@@ -92,5 +94,5 @@ month_rows =
     ∷ []
 
 pub month_examples : map (λ (r : Row). r.given) month_rows ≡ map (λ (r : Row). r.stated) month_rows
-unfolding month_rows row in_year edges months moved from_utc is_leap month_length_of days_in_month word_of build_of build_number build_pair
+unfolding month_rows row in_year edges months moved from_utc is_leap month_length_of days_in_month word_of build_of build_checks build_pair
 month_examples = refl

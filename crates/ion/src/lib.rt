@@ -1,26 +1,35 @@
 // The types of the library's calls. What each call answers is defined in specs/.
 #![tactic(auto)]
 
+pub mod number;
 pub mod offset;
 pub mod refusal;
 
 ghost use Rattle.std.specs.Prelude.{◌≡◌};
-ghost use Rattle.ion.specs.Calls.Build.{refused_build};
-ghost use Rattle.ion.specs.Calls.Check.{from_local};
+ghost use Rattle.ion.specs.Calendar.Shift.{date_of};
+ghost use Rattle.ion.specs.Calls.Accepted.{time_in};
+ghost use Rattle.ion.specs.Calls.Build.{precision_number};
+ghost use Rattle.ion.specs.Calls.Check.{precision_of, from_local};
 
-use offset::{Offset, OffsetMinutes, RawOffset};
+pub use number::{NumberError, SignedMagnitude};
+use offset::{OffsetMinutes, RawOffset};
+pub use refusal::Refusal;
+use std::cmp::Ordering;
 
 // The attoseconds of a second: a fraction has fewer.
 pub const MAX_ATTOSECONDS: u64 = 1_000_000_000_000_000_000;
 
-// A timestamp is its packed pair. Anyone may hold a wrong pair: every call checks the pair it is given.
+// A timestamp is its packed pair. Anyone may hold a wrong pair: every call checks the pair it is given. No order or equality is
+// derived: that of pairs is not that of instants, and crate `order` has both by name. Functions below a check require `Accepted`:
+// a type for accepted timestamps would be made of each answer and taken apart in each contract.
 #[derive(Clone, Copy)]
 pub struct Timestamp {
     pub packed_fields: u64,
     pub attoseconds: u64,
 }
 
-// The fields of a packed word. The precision is 0 year, 1 month, 2 day, 3 hour and minute, 4 second.
+// The fields of a packed word. The precision is 0 year, 1 month, 2 day, 3 hour and minute, 4 second: a number and no
+// `TimestampPrecision`, since the word of a wrong pair may hold 5 to 7 too.
 #[derive(Clone, Copy)]
 pub struct Fields {
     pub year: u32,
@@ -32,6 +41,21 @@ pub struct Fields {
     pub precision: u32,
     pub digits: u32,
     pub offset: RawOffset,
+}
+
+impl Fields {
+    // To the minute. The one place that copies them.
+    pub fn time(self) -> DateTime
+        ensures { result ≡ time_in self }
+    {
+        DateTime {
+            year: self.year,
+            month: self.month,
+            day: self.day,
+            hour: self.hour,
+            minute: self.minute,
+        }
+    }
 }
 
 #[derive(Clone, Copy)]
@@ -49,6 +73,20 @@ pub struct DateTime {
     pub day: u32,
     pub hour: u32,
     pub minute: u32,
+}
+
+impl DateTime {
+    pub fn date(self) -> Date
+        ensures { result ≡ date_of self }
+    {
+        let DateTime {
+            year,
+            month,
+            day,
+            ..
+        } = self;
+        Date { year, month, day }
+    }
 }
 
 // A fraction of a second: attoseconds, 10^18 for a second or more, and its number of digits.
@@ -76,6 +114,27 @@ pub enum TimestampPrecision {
     Second,
 }
 
+impl TimestampPrecision {
+    pub fn number(self) -> u32
+        ensures { result ≡ precision_number self }
+    {
+        self as u32
+    }
+
+    // By the number of a packed word: 5 to 7 read as 4.
+    pub fn from_number(number: u32) -> TimestampPrecision
+        ensures { result ≡ precision_of number }
+    {
+        match number {
+            0 => TimestampPrecision::Year,
+            1 => TimestampPrecision::Month,
+            2 => TimestampPrecision::Day,
+            3 => TimestampPrecision::HourAndMinute,
+            _ => TimestampPrecision::Second,
+        }
+    }
+}
+
 // How the builder's fields relate to UTC.
 #[derive(Clone, Copy)]
 pub enum BuilderOffset {
@@ -85,14 +144,11 @@ pub enum BuilderOffset {
 }
 
 impl BuilderOffset {
-    // Of local fields.
-    pub fn from_local(o: Offset) -> BuilderOffset
-        ensures { result ≡ from_local o }
+    // Of local fields: no `From`, which would not say which.
+    pub fn from_local(offset: Option<OffsetMinutes>) -> BuilderOffset
+        ensures { result ≡ from_local offset }
     {
-        match o {
-            Offset::Unknown => BuilderOffset::Unknown,
-            Offset::Known(m) => BuilderOffset::FromLocalFields(m),
-        }
+        offset.map_or(BuilderOffset::Unknown, BuilderOffset::FromLocalFields)
     }
 }
 
@@ -111,145 +167,18 @@ pub struct BuilderFields {
     pub digits: u64,
 }
 
-// ---- answers: a number first, 0 for accepted
-
-// A timestamp; the pair (0, 0) beside a refusal.
-#[derive(Clone, Copy)]
-pub struct Built {
-    pub number: u32,
-    pub stamp: Timestamp,
-}
-
-impl Built {
-    pub fn refused(number: u32) -> Built
-        ensures { result ≡ refused_build number }
-    {
-        Built {
-            number: number,
-            stamp: Timestamp {
-                packed_fields: 0,
-                attoseconds: 0,
-            },
-        }
-    }
-}
-
-// A field read from a timestamp; 0 beside a refusal.
-#[derive(Clone, Copy)]
-pub struct Field {
-    pub number: u32,
-    pub value: u32,
-}
-
-#[derive(Clone, Copy)]
-pub struct Attoseconds {
-    pub number: u32,
-    pub value: u64,
-}
-
-// The offset read from a timestamp; unknown beside a refusal.
-#[derive(Clone, Copy)]
-pub struct OffsetField {
-    pub number: u32,
-    pub value: Offset,
-}
-
-// The fraction read from a timestamp; 0 with exponent 0 beside a refusal or where there is none.
-#[derive(Clone, Copy)]
-pub struct DecimalField {
-    pub number: u32,
-    pub value: Decimal,
-}
-
-// -1, 0 or 1; 0 beside a refusal.
-#[derive(Clone, Copy)]
-pub struct Ordered {
-    pub number: u32,
-    pub order: i32,
-}
-
-#[derive(Clone, Copy)]
-pub struct Compared {
-    pub number: u32,
-    pub equal: bool,
-}
-
-// The sign of the first less the second, and the size of the difference; 0 beside a refusal.
+// The difference of two instants: the order of the first beside the second, and its size.
 #[derive(Clone, Copy)]
 pub struct Distance {
-    pub number: u32,
-    pub sign: i32,
+    pub order: Ordering,
     pub seconds: u64,
     pub attoseconds: u64,
 }
 
-// How many bytes were written; 0 beside a refusal.
-#[derive(Clone, Copy)]
-pub struct Written {
-    pub number: u32,
-    pub written: usize,
-}
-
-// A timestamp and how many bytes it took; the pair (0, 0) and 0 beside a refusal.
-#[derive(Clone, Copy)]
-pub struct Read {
-    pub number: u32,
-    pub stamp: Timestamp,
-    pub taken: usize,
-}
-
-// ---- what the readers of parts of a value find
-
 // The parts of a value's body: an offset, UTC fields, and the coefficient of the fraction.
 #[derive(Clone, Copy)]
 pub struct Body {
-    pub offset: Offset,
+    pub offset: Option<OffsetMinutes>,
     pub utc: Fields,
     pub coefficient: u64,
-}
-
-// A value with the number of its bytes; the end of the input inside it; or no shortest form of a
-// number within the limit.
-#[derive(Clone, Copy)]
-pub enum VarUIntRead {
-    Value(u64, usize),
-    Cut,
-    Bad,
-}
-
-// A sign, a magnitude and the number of bytes: negative zero is one of its own.
-#[derive(Clone, Copy)]
-pub enum VarIntRead {
-    Value(bool, u64, usize),
-    Cut,
-    Bad,
-}
-
-// A number, or bytes that are no shortest form of one.
-#[derive(Clone, Copy)]
-pub enum IntRead {
-    Value(u64),
-    Bad,
-}
-
-// ---- what the readers of parts of a text find
-
-// The number that digits make, or that they are not there.
-#[derive(Clone, Copy)]
-pub enum DigitsRead {
-    Value(u32),
-    Missing,
-}
-
-#[derive(Clone, Copy)]
-pub enum OffsetRead {
-    Found(Offset),
-    Wrong,
-}
-
-// The fields of a text that has one of the forms.
-#[derive(Clone, Copy)]
-pub enum TextRead {
-    Form(BuilderFields),
-    Broken,
 }

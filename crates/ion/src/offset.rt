@@ -17,12 +17,6 @@ pub struct RawOffset(u16);
 #[derive(Clone, Copy)]
 pub struct OffsetMinutes(i32);
 
-#[derive(Clone, Copy)]
-pub enum Offset {
-    Unknown,
-    Known(OffsetMinutes),
-}
-
 impl RawOffset {
     pub fn new(bits: u16) -> RawOffset
         ensures { result ≡ raw_offset bits }
@@ -74,35 +68,30 @@ impl OffsetMinutes {
     }
 }
 
-// The offset that a raw number stands for.
-pub fn offset_of(raw: RawOffset) -> Offset
+// The offset that a raw number stands for; none where it is unknown.
+pub fn offset_of(raw: RawOffset) -> Option<OffsetMinutes>
     ensures { result ≡ offset_of raw }
 {
-    let n = raw.0;
-    if n == 0 {
-        Offset::Unknown
-    } else {
-        Offset::Known(OffsetMinutes(n as i32 - 1440))
+    match raw.0 {
+        0 => None,
+        n => Some(OffsetMinutes(n as i32 - 1440)),
     }
 }
 
 // The raw number of an offset.
-pub fn raw_of(o: Offset) -> RawOffset
-    requires { WithinDay o }
-    ensures { result ≡ raw_of o }
+pub fn raw_of(offset: Option<OffsetMinutes>) -> RawOffset
+    requires { WithinDay offset }
+    ensures { result ≡ raw_of offset }
 {
-    match o {
-        Offset::Unknown => RawOffset(0),
-        Offset::Known(m) => RawOffset((m.0 + 1440) as u16),
+    match offset {
+        None => RawOffset(0),
+        Some(m) => RawOffset((m.0 + 1440) as u16),
     }
 }
 
 // The minutes to subtract for UTC: none where the offset is unknown.
-pub fn minutes_of(o: Offset) -> OffsetMinutes
-    ensures { result ≡ offset_minutes (minutes_of o) }
+pub fn minutes_of(offset: Option<OffsetMinutes>) -> OffsetMinutes
+    ensures { result ≡ offset_minutes (minutes_of offset) }
 {
-    match o {
-        Offset::Unknown => OffsetMinutes(0),
-        Offset::Known(m) => m,
-    }
+    offset.unwrap_or(OffsetMinutes(0))
 }

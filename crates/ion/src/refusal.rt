@@ -1,46 +1,71 @@
-// The numbers of the refusals; 0 means accepted.
+// The refusals, and their numbers by the scope's table.
+ghost use Rattle.std.specs.Prelude.{◌≡◌, ◌≤◌};
+ghost use Rattle.ion.specs.Calls.Refusal.{number_of, number_in};
 
-// Fraction below 0, or 1 and above.
-pub const FRACTION: u32 = 1;
-// Year given above 9999.
-pub const YEAR: u32 = 2;
-// Month above 12.
-pub const MONTH: u32 = 3;
-// Day above 31.
-pub const DAY: u32 = 4;
-// Hour above 23.
-pub const HOUR: u32 = 5;
-// Minute above 59.
-pub const MINUTE: u32 = 6;
-// Second above 59.
-pub const SECOND: u32 = 7;
-// More than 18 fraction digits.
-pub const DIGITS: u32 = 8;
-// Known offset outside -1439..1439 minutes.
-pub const OFFSET: u32 = 9;
-// Month or finer, and no such calendar day (month 0 and day 0 included).
-pub const NO_DAY: u32 = 10;
-// Local year below 1 or above 9999.
-pub const LOCAL_YEAR: u32 = 11;
-// Packed pair the builder never gives.
-pub const PAIR: u32 = 12;
-// Input ends inside a value, or inside a scan.
-pub const INPUT_ENDS: u32 = 13;
-// First byte not 60 to 6E hexadecimal.
-pub const FIRST_BYTE: u32 = 14;
-// Body or length not a stamp's.
-pub const BODY: u32 = 15;
-// Buffer shorter than the output.
-pub const SHORT_BUFFER: u32 = 16;
-// Program input above 65,536 bytes.
-pub const LONG_INPUT: u32 = 17;
-// Text in none of the forms.
-pub const FORM: u32 = 18;
-// Number of a scan padded, without an end mark in five bytes, or above 4,294,967,295.
-pub const NUMBER: u32 = 19;
-// Fewer words than the report needs.
-pub const WORDS: u32 = 20;
-// W above 86,400 seconds.
-pub const WINDOW: u32 = 21;
-// A 257th tag.
-pub const TAGS: u32 = 22;
+#[derive(Clone, Copy, Debug, PartialEq, Eq)]
+pub enum Refusal {
+    // Fraction below 0, or 1 and above.
+    Fraction,
+    // Year given above 9999.
+    Year,
+    // Month above 12.
+    Month,
+    // Day above 31.
+    Day,
+    // Hour above 23.
+    Hour,
+    // Minute above 59.
+    Minute,
+    // Second above 59.
+    Second,
+    // More than 18 fraction digits.
+    Digits,
+    // Known offset outside -1439..1439 minutes.
+    Offset,
+    // Month or finer, and no such calendar day (month 0 and day 0 included).
+    NoDay,
+    // Local year below 1 or above 9999.
+    LocalYear,
+    // Packed pair the builder never gives.
+    Pair,
+    // Input ends inside a value, or inside a scan.
+    InputEnds,
+    // First byte not 60 to 6E hexadecimal.
+    FirstByte,
+    // Body or length not a stamp's.
+    Body,
+    // Buffer shorter than the output.
+    ShortBuffer,
+    // Program input above 65,536 bytes.
+    LongInput,
+    // Text in none of the forms.
+    Form,
+    // Number of a scan padded, without an end mark in five bytes, or above 4,294,967,295.
+    Number,
+    // Fewer words than the report needs.
+    Words,
+    // W above 86,400 seconds.
+    Window,
+    // A 257th tag.
+    Tags,
+}
+
+impl Refusal {
+    // From 1 on, in the order above.
+    pub fn number(self) -> u32
+        ensures value { result ≡ number_of self }
+        ensures bound { result ≤ 22 }
+    {
+        self as u32 + 1
+    }
+}
+
+// The number of an answer: 0 for accepted.
+pub fn number_in<T>(answer: &Result<T, Refusal>) -> u32
+    ensures { result ≡ number_in answer.now }
+{
+    match answer {
+        Ok(_) => 0,
+        Err(refusal) => refusal.number(),
+    }
+}

@@ -1,27 +1,21 @@
--- A line put into a buffer: what stands in it, and a line feed. Assumes nothing.
-use mathlib.Core.Path.{◌≡◌, refl, sym, subst}
+-- The parts of a line that is put into a buffer. Assumes nothing.
+use mathlib.Core.Path.{◌≡◌, sym, subst}
 use mathlib.Core.List.{List, [], ◌∷◌, ◌++◌}
-use Prim.Native.Nat.{ℕ, ◌+◌, ◌≤◌, ◌<◌, max}
+use Prim.Native.Nat.{ℕ, ◌≤◌, ◌<◌, max}
 use native.Mathlib.Omega.{arith}
 use lib.Dec.{lit<}
-use lib.ListN.{length}
+use lib.ListN.{length, length-append}
 use Rattle.ion.specs.Pair.Pair.{word_in}
 use Rattle.ion.specs.Pair.Word.{fields_of}
 use Rattle.ion.specs.Text.Ascii.{ascii}
 use Rattle.ion.specs.Numbers.Padded.{padded, digit_count}
-use Rattle.ion.specs.Calls.Output.{over, Run}
+use Rattle.ion.specs.Calls.Output.{Run}
 use Rattle.ion.specs.Calls.Accepted.{Valid, Accepted}
 use Rattle.ion.specs.Text.Format.{fields_text, text_of}
-use Rattle.ion.specs.Calls.Stamps.{line_of}
 use Rattle.ion.specs.declared.Fields.{Fields}
 use Rattle.ion.specs.declared.Timestamp.{Timestamp}
-use Rattle.output.proofs.Runs.{run_two}
 use Rattle.places.proofs.Laws.{fewest}
-
--- a line feed after a run of bytes
-pub line_end : {d e g : List ℕ} {at n : ℕ} {s : List ℕ} → Run d at s e n → g ≡ over e n (10 ∷ []) → n + 1 ≤ length d
-    → Run d at (line_of s) g (n + 1)
-line_end r q h = run_two r (record { bytes = q; next = refl }) h
+use Rattle.text.proofs.Digits.{length_padded}
 
 -- ---- a text's line
 
@@ -35,11 +29,9 @@ module _ (s : Timestamp) {f : Fields} (e : f ≡ fields_of (word_in s)) where
 
 -- ---- the last line
 
-pub two_digits : (n : ℕ) → n < 100 → max 1 (digit_count n) ≤ 2
+two_digits : (n : ℕ) → n < 100 → max 1 (digit_count n) ≤ 2
 two_digits n h = omega (arith, fewest 10 (lit< tt) 2 n (omega arith) (omega arith))
 
-pub stop_run : {d e g : List ℕ} {at n : ℕ} (k : ℕ) → e ≡ over d at (ascii "stop ") → Run e (at + 5) (padded 1 k) g n → n ≤ length d
-    → Run d at (ascii "stop " ++ padded 1 k) g n
-stop_run {d} {e} {at = at} k q r h =
-    let stop : Run d at (ascii "stop ") e (at + 5) = record { bytes = q; next = refl } in
-    run_two stop r h
+-- eight bytes at most
+pub stop_length : (n : ℕ) → n < 100 → length (ascii "stop " ++ (padded 1 n ++ (10 ∷ []))) ≤ 8
+stop_length n h = omega (arith, length-append (padded 1 n) (10 ∷ []), length_padded 1 n, two_digits n h)

@@ -1,16 +1,16 @@
 // The lines that the program `stamps` prints for an input.
 #![tactic(auto)]
 
-ghost use Rattle.std.specs.Prelude.{◌+◌, ◌*◌, ◌≤◌, ◌<◌, ◌≡◌, length, take, IfOk, OnOk, IfSome};
+ghost use Rattle.std.specs.Prelude.{◌+◌, ◌*◌, ◌≤◌, ◌≡◌, length, take, IfOk, OnOk, IfSome};
 ghost use Rattle.std.specs.Io.KnownBytes.{Appends};
 ghost use Rattle.ion.specs.Calls.Accepted.{Accepted};
 ghost use Rattle.ion.specs.Calls.Output.{Run};
 ghost use Rattle.ion.specs.Calls.Stamps.{line_of, stop_line, output_of};
 ghost use Rattle.ion.specs.Text.Format.{text_of};
 
-use ion::{Timestamp, refusal};
+use ion::{Refusal, Timestamp};
 use std::io::{self, Read, Write};
-use text::text_formatter;
+use text::text_formatter::Padded;
 
 // The longest input that is listed.
 const MAX_INPUT: usize = 65_536;
@@ -22,20 +22,20 @@ fn put_text(buf: &mut [u8], at: usize, s: Timestamp) -> usize
     ensures bound { result ≤ at + 45 }
 {
     let end = timestamp_text::text_into(buf, at, packed::unpack(s.packed_fields), s.attoseconds);
-    output::copy_in(buf, end, b"\n");
-    end + 1
+    output::put(buf, end, b"\n".as_slice())
 }
 
-// Puts `stop`, a space, the number and a line feed from index `at` on; the index after them.
-fn put_stop(buf: &mut [u8], at: usize, number: u32) -> usize
-    requires { (at + 8 ≤ length buf.old) × (number < 100) }
-    ensures run { Run buf.old at (stop_line number) buf.new result }
+// Puts `stop`, a space, the refusal's number and a line feed from index `at` on; the index after them.
+fn put_stop(buf: &mut [u8], at: usize, refusal: Refusal) -> usize
+    requires { at + 8 ≤ length buf.old }
+    ensures run { Run buf.old at (stop_line refusal) buf.new result }
     ensures bound { result ≤ at + 8 }
 {
-    output::copy_in(buf, at, b"stop ");
-    let end = text_formatter::put_padded(buf, at + 5, number as u64, 1);
-    output::copy_in(buf, end, b"\n");
-    end + 1
+    let number = Padded {
+        value: refusal.number() as u64,
+        width: 1,
+    };
+    output::put(buf, at, (b"stop ".as_slice(), (number, b"\n".as_slice())))
 }
 
 // Lists the values of `input` from the start of `buf` on; how many bytes that takes.
@@ -46,18 +46,18 @@ pub fn list(input: &[u8], buf: &mut [u8]) -> usize
     ensures bound { result ≤ length buf.old }
 {
     if MAX_INPUT < input.len() {
-        return put_stop(buf, 0, refusal::LONG_INPUT);
+        return put_stop(buf, 0, Refusal::LongInput);
     }
-    let mut at = 0;
+    let mut rest = input;
     let mut end = 0;
-    while at < input.len() {
-        let r = value_reader::read_value(&input[at..]);
-        let number = r.number;
-        if number != 0 {
-            return put_stop(buf, end, number);
+    while !rest.is_empty() {
+        match value_reader::read_value(rest) {
+            Ok((stamp, taken)) => {
+                end = put_text(buf, end, stamp);
+                rest = &rest[taken..];
+            }
+            Err(refusal) => return put_stop(buf, end, refusal),
         }
-        end = put_text(buf, end, r.stamp);
-        at += r.taken;
     }
     end
 }

@@ -1,22 +1,24 @@
 -- Two local times by one clock lie as the two instants do. Assumes nothing.
-use mathlib.Core.Path.{◌≡◌, ap₂}
-use Prim.Native.Nat.{ℕ, ◌+◌, ◌*◌, ◌^◌, ◌<◌}
+use mathlib.Core.Path.{◌≡◌}
+use Prim.Native.Nat.{ℕ, ◌+◌, ◌^◌, ◌<◌}
 use native.Mathlib.Omega.{arith}
 use lib.IntN.{ℤ, pos, neg_ℤ, nat_abs, ◌+ℤ◌, ◌-ℤ◌}
+use borrow.Author.Differences.{up, down, sum_is_lem, neg_is}
 use Rattle.integers.specs.Floor.{◌plus◌}
-use Rattle.integers.proofs.Parts.{IsNatural, up, down, apart, add_parts, sub_parts, neg_parts, plus_parts, nat_abs_parts}
+use Rattle.integers.proofs.Parts.{IsNatural, apart, sub_parts, plus_parts, nat_abs_parts}
 use Rattle.ion.specs.Pair.Offset.{offset_of}
-use Rattle.ion.specs.Pair.Count.{offset_in, fields_count}
+use Rattle.ion.specs.Pair.Count.{offset_in, fields_count, count_of}
 use Rattle.ion.specs.Calendar.Shift.{minute_number}
-use Rattle.ion.specs.Calls.Accepted.{time_in, date_in, Valid}
-use Rattle.ion.specs.Calls.Order.{order_of, order_of_pairs, distant, distance_of_counts}
+use Rattle.ion.specs.Calls.Accepted.{time_in, date_in, Valid, Accepted}
+use Rattle.ion.specs.Pair.Word.{fields_of}
+use Rattle.ion.specs.Pair.Pair.{word_in}
 use Rattle.ion.specs.declared.Fields.{Fields}
+use Rattle.ion.specs.declared.Timestamp.{Timestamp}
 use Rattle.ion.proofs.Offsets.{within_day}
 use Rattle.calendar.proofs.Dates.{after_year_zero, day_number_below}
 use Rattle.timestamp.proofs.Valid.{valid_time, valid_offset}
-use Rattle.order.specs.Local.{IsLocalFields, seconds_at, offset_difference, seconds_of_both}
-use Rattle.order.proofs.Orders.{order_shift}
-use Rattle.order.proofs.CountsInSeconds.{size_shift, shift_counts, pairs_like}
+use Rattle.order.specs.Local.{IsLocalFields, seconds_at, count_by, offset_difference}
+use Rattle.order.proofs.CountsInSeconds.{shift_counts}
 
 -- the fields of an accepted timestamp are local fields
 pub valid_local : {f : Fields} {a : ℕ} → Valid f a → IsLocalFields f
@@ -50,7 +52,7 @@ module _ (f : Fields) (p : IsLocalFields f) where
 
     -- the sum in signed numbers, as the code makes it
     pub moved_gives : IsNatural (pos minutes +ℤ z) (minutes plus z)
-    moved_gives = omega (arith, add_parts (pos minutes) z, apart (pos minutes +ℤ z), minutes_parts)
+    moved_gives = omega (arith, sum_is_lem (pos minutes) z, apart (pos minutes +ℤ z), minutes_parts)
 
     pub moved_below : minutes plus z < 2 ^ 33
     moved_below = omega (arith, minutes_below, nat_abs_parts z, minutes_parts)
@@ -59,8 +61,8 @@ module _ (f : Fields) (p : IsLocalFields f) where
   utc_parts =
       let o = offset_in f in
       let m = neg_ℤ o in
-      let h : nat_abs m < 2880 = omega (arith, p.offset, nat_abs_parts o, nat_abs_parts m, neg_parts o) in
-      omega (arith, neg_parts o, minutes_parts m h)
+      let h : nat_abs m < 2880 = omega (arith, p.offset, nat_abs_parts o, nat_abs_parts m, neg_is o) in
+      omega (arith, neg_is o, minutes_parts m h)
 
 -- ---- both by the local clock of the first
 
@@ -71,38 +73,27 @@ module _ (f g : Fields) (p : IsLocalFields f) (q : IsLocalFields g) where
       let r = offset_in g in
       omega (arith, p.offset, q.offset, nat_abs_parts o, nat_abs_parts r, nat_abs_parts (o -ℤ r), sub_parts o r, apart (o -ℤ r))
 
-  abbrev first : ℕ
-  first = (seconds_of_both f g).first
-
-  abbrev second : ℕ
-  second = (seconds_of_both f g).second
-
   -- both are as far from UTC
-  same_clock : first + utc_seconds g ≡ second + utc_seconds f
+  same_clock : seconds_at f (pos 0) + utc_seconds g ≡ seconds_at g (offset_difference f g) + utc_seconds f
   same_clock =
       let ahead = minutes_parts g q (offset_difference f g) ahead_small in
       omega (arith, utc_parts f p, utc_parts g q, ahead, sub_parts (offset_in f) (offset_in g))
 
-  module _ (a b : ℕ) where
-    pub order_is : a < 10 ^ 18 → b < 10 ^ 18 → order_of_pairs first a second b ≡ order_of (fields_count f a) (fields_count g b)
-    order_is h k =
-        let s = utc_seconds f in
-        let t = utc_seconds g in
-        pairs_like (10 ^ 18) s t a b h k first second (order_shift first second s t same_clock)
+  pub counts_shift : (a b : ℕ) → count_by f a (pos 0) + fields_count g b ≡ count_by g b (offset_difference f g) + fields_count f a
+  counts_shift a b = shift_counts (10 ^ 18) _ _ (utc_seconds f) (utc_seconds g) a b same_clock
 
-    counts_shift : (first * 10 ^ 18 + a) + fields_count g b ≡ (second * 10 ^ 18 + b) + fields_count f a
-    counts_shift = shift_counts (10 ^ 18) first second (utc_seconds f) (utc_seconds g) a b same_clock
-
-    pub distance_is :
-        distance_of_counts (first * 10 ^ 18 + a) (second * 10 ^ 18 + b) ≡ distance_of_counts (fields_count f a) (fields_count g b)
-    distance_is = ap₂ distant (order_shift _ _ _ _ counts_shift) (size_shift _ _ _ _ counts_shift)
+-- the same of two accepted timestamps, by what the code computes of them
+pub one_clock : {s t : Timestamp} {f g : Fields} {z : ℤ} {m n : ℕ} → Accepted s × Accepted t → f ≡ fields_of (word_in s)
+    → g ≡ fields_of (word_in t) → z ≡ offset_difference f g → m ≡ count_by f s.attoseconds (pos 0) → n ≡ count_by g t.attoseconds z
+    → m + count_of t ≡ n + count_of s
+unfolding count_of
+one_clock {s} {t} p u v d e f =
+    rw (e, f, d, u, v) (counts_shift _ _ (valid_local p.0.fields) (valid_local p.1.fields) s.attoseconds t.attoseconds)
 
 -- ---- lists of laws, for the code
 
 pub ruleset ahead = (valid_local, ahead_small)
 
 pub ruleset moved = (moved_gives, moved_below)
-
-pub ruleset clocks = (valid_local, distance_is)
 
 pub ruleset in_utc = (valid_local)

@@ -1,11 +1,10 @@
 -- Local fields, and their whole seconds by a clock that is ahead of the local one. Assumes nothing.
-use Rattle.std.specs.Prelude.{ℕ, ◌+◌, ◌*◌, ◌≤◌, ◌<◌, ℤ, pos, nat_abs, ◌-ℤ◌}
+use Rattle.std.specs.Prelude.{ℕ, ◌+◌, ◌*◌, ◌^◌, ◌≤◌, ◌<◌, ℤ, nat_abs, ◌-ℤ◌}
 use Rattle.integers.specs.Floor.{◌plus◌}
 use Rattle.ion.specs.Calendar.Shift.{IsDateTime, minute_number}
 use Rattle.ion.specs.Calls.Accepted.{time_in}
 use Rattle.ion.specs.Pair.Count.{offset_in}
 use Rattle.ion.specs.declared.Fields.{Fields}
-use Rattle.order.specs.declared.seconds.Seconds.{Seconds}
 
 -- what the order needs of the fields of an accepted timestamp
 pub record IsLocalFields (f : Fields) : Type 0 where
@@ -19,10 +18,10 @@ pub record IsLocalFields (f : Fields) : Type 0 where
 abbrev pub seconds_at : Fields → ℤ → ℕ
 seconds_at f z = (minute_number (time_in f) plus z) * 60 + f.second
 
+-- the count, in attoseconds
+abbrev pub count_by : Fields → ℕ → ℤ → ℕ
+count_by f a z = seconds_at f z * 10 ^ 18 + a
+
 -- how many minutes the local clock of the first is ahead of that of the second
 abbrev pub offset_difference : Fields → Fields → ℤ
 offset_difference f g = offset_in f -ℤ offset_in g
-
--- the whole seconds of the two by the local clock of the first
-abbrev pub seconds_of_both : Fields → Fields → Seconds
-seconds_of_both f g = record { first = seconds_at f (pos 0); second = seconds_at g (offset_difference f g) }

@@ -1,20 +1,12 @@
-// Whole seconds of two timestamps by the local clock of the first: the difference of their offsets is added to the second.
+// Counts of timestamps: of two by the local clock of the first, the difference of their offsets added to the second; of one in UTC.
 ghost use Rattle.std.specs.Prelude.{◌≡◌, ◌+◌, ◌*◌, ◌^◌, ◌<◌, nat_abs};
 ghost use Rattle.ion.specs.Calls.Accepted.{time_in, Accepted};
-ghost use Rattle.ion.specs.Pair.Pair.{word_in};
 ghost use Rattle.ion.specs.Pair.Count.{count_of};
 ghost use Rattle.ion.specs.Calendar.Shift.{minute_number};
-ghost use Rattle.ion.specs.Pair.Word.{fields_of};
-ghost use Rattle.order.specs.Local.{IsLocalFields, seconds_at, offset_difference, seconds_of_both};
+ghost use Rattle.order.specs.Local.{IsLocalFields, offset_difference, count_by};
 
-use ion::{Date, Fields, Timestamp, offset};
-
-// Those of a first and of a second timestamp.
-#[derive(Clone, Copy)]
-pub(crate) struct Seconds {
-    pub first: u64,
-    pub second: u64,
-}
+use crate::counts::Count;
+use ion::{Fields, Timestamp, offset};
 
 // Minutes from 0000-01-01T00:00 by the local clock.
 #[tactic(auto, using(crate::proofs::Clocks::minutes_below))]
@@ -23,12 +15,7 @@ fn minute_number(f: Fields) -> u64
     ensures value { result ≡ minute_number (time_in f) }
     ensures bound { result < 2 ^ 33 }
 {
-    let date = Date {
-        year: f.year,
-        month: f.month,
-        day: f.day,
-    };
-    calendar::day_number(date) * 1440 + (f.hour * 60 + f.minute) as u64
+    calendar::day_number(f.time().date()) * 1440 + (f.hour * 60 + f.minute) as u64
 }
 
 // How many minutes the local clock of the first is ahead of that of the second.
@@ -41,38 +28,41 @@ fn offset_difference(f: Fields, g: Fields) -> i32
     o.minus(p)
 }
 
-// Whole seconds by a clock that is a number of minutes ahead of the local one.
+// The count by a clock that is a number of minutes ahead of the local one.
 #[tactic(auto, using(crate::proofs::Clocks::moved))]
-fn seconds_at(f: Fields, ahead: i32) -> u64
-    requires { IsLocalFields f × (nat_abs ahead < 2880) }
-    ensures { result ≡ seconds_at f ahead }
+fn count_by(f: Fields, attoseconds: u64, ahead: i32) -> Count
+    requires fields { IsLocalFields f }
+    requires attoseconds { attoseconds < 10 ^ 18 }
+    requires ahead { nat_abs ahead < 2880 }
+    ensures { result ≡ count_by f attoseconds ahead }
 {
     let minutes = (minute_number(f) as i64 + ahead as i64) as u64;
-    minutes * 60 + f.second as u64
+    Count::new(minutes * 60 + f.second as u64, attoseconds)
 }
 
-// Those of two accepted timestamps.
+// The counts of two accepted timestamps by the local clock of the first: both are as far from UTC's.
 #[tactic(auto, using(crate::proofs::Clocks::ahead))]
-pub(crate) fn seconds_of_both(s: Timestamp, t: Timestamp) -> Seconds
+pub(crate) fn counts_of_both(s: Timestamp, t: Timestamp) -> (Count, Count)
     requires { Accepted s × Accepted t }
-    ensures { result ≡ seconds_of_both (fields_of (word_in s)) (fields_of (word_in t)) }
+    ensures { result.0 + count_of t ≡ result.1 + count_of s }
 {
     let f = packed::unpack(s.packed_fields);
     let g = packed::unpack(t.packed_fields);
     let ahead = offset_difference(f, g);
-    Seconds {
-        first: seconds_at(f, 0),
-        second: seconds_at(g, ahead),
-    }
+    let first = count_by(f, s.attoseconds, 0);
+    let second = count_by(g, t.attoseconds, ahead);
+    (first, second)
 }
 
-// Those of an accepted timestamp's count, in UTC.
-#[tactic(auto, using(crate::proofs::Clocks::in_utc), unfolding(ion::specs::Pair::Count::count_of))]
-pub fn utc_seconds(s: Timestamp) -> u64
-    requires { Accepted s }
-    ensures { result * 10 ^ 18 + s.attoseconds ≡ count_of s }
-{
-    let f = packed::unpack(s.packed_fields);
-    let o = offset::minutes_of(offset::offset_of(f.offset));
-    seconds_at(f, o.negated().minutes())
+impl Count {
+    // Of an accepted timestamp.
+    #[tactic(auto, using(crate::proofs::Clocks::in_utc), unfolding(ion::specs::Pair::Count::count_of))]
+    pub fn of_accepted(s: Timestamp) -> Count
+        requires { Accepted s }
+        ensures { result ≡ count_of s }
+    {
+        let f = packed::unpack(s.packed_fields);
+        let o = offset::minutes_of(offset::offset_of(f.offset));
+        count_by(f, s.attoseconds, o.negated().minutes())
+    }
 }

@@ -6,6 +6,7 @@ use native.Mathlib.Nat.{add-zero}
 use native.Mathlib.Omega.{arith}
 use lib.ListN.{length, length-append, length-drop, take, drop, take-append-drop}
 use lib.Seq.{drop-drop, take_at, drop-append-le}
+use borrow.Rule.Slice.PartMut.{put_mid}
 use Rattle.places.specs.Padded.{last_bytes}
 use Rattle.ion.specs.Calls.Output.{over, Run, Between}
 use Rattle.output.proofs.Stores.{take_over, drop_there, over_over, over_before, length_over}
@@ -34,6 +35,16 @@ run_before {d} {e} {f} {a} {b} {c} {r} {s} {t} g h q l =
 
 pub run_is : {d e : List ℕ} {a c : ℕ} {s t : List ℕ} → Run d a s e c → s ≡ t → Run d a t e c
 run_is {d} {e} {a} {c} {s} {t} g q = record { bytes = g.bytes ∙ ap (over d a) q; next = g.next ∙ ap (λ (l : List ℕ). a + length l) q }
+
+-- bytes put by any other means
+pub put_run : {d e : List ℕ} {at n : ℕ} {s t : List ℕ} → n ≡ length s → e ≡ over d at t → t ≡ s → Run d at s e (at + n)
+put_run {d} {e} {at} size p q = record { bytes = p ∙ ap (over d at) q; next = ap (λ (k : ℕ). at + k) size }
+
+-- bytes put into a part of k bytes
+pub run_part : {d t s : List ℕ} {at k r : ℕ} → t ≡ s → k ≡ length s → r ≡ at + k → Run d at s (put_mid at k d t) r
+run_part {d} {t} {s} {at} {k} e n q =
+    let l : drop k (drop at d) ≡ drop (at + length t) d = drop-drop k at d ∙ ap (λ (j : ℕ). drop (at + j) d) (n ∙ sym (ap length e)) in
+    rw q (put_run n (ap (λ (y : List ℕ). take at d ++ (t ++ y)) l) e)
 
 -- what stands before the end
 pub run_front : {d e : List ℕ} {a c : ℕ} {s : List ℕ} → Run d a s e c → a ≤ length d → take c e ≡ take a d ++ s

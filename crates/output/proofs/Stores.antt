@@ -1,80 +1,75 @@
--- Bytes put into a buffer, one run after another or in front of it, and stores from the front and from the back. Assumes nothing.
+-- Bytes put into a buffer, one run after another or in front of it, and stores from the back. Assumes nothing.
 use mathlib.Core.Path.{◌≡◌, refl, sym, ap, ap₂, ◌∙◌}
 use mathlib.Core.List.{List, [], ◌++◌, append_assoc}
 use Prim.Native.Nat.{ℕ, ◌+◌, ◌-◌, ◌/◌, ◌%◌, ◌≤◌, ◌<◌}
-use native.Mathlib.Numerals.{add-one}
 use native.Mathlib.Omega.{arith}
 use native.Mathlib.Decide.{dec_le}
-use borrow.Author.Tests.{le-leb, lt-leb, ne_eqb}
-use lib.ListN.{length, take, drop, set, get_or, length-append, length-drop, length-set, take-append-drop}
-use lib.Seq.{take_at, drop_at, drop-drop, length-take-le, take-set-le, paste, paste-suc, take-length, take-append-le, take-take}
+use borrow.Author.Tests.{le-leb, lt-leb}
+use lib.ListN.{length, take, drop, set, length-append, length-drop, length-set, take-append-drop}
+use lib.Seq.{take_at, drop_at, drop-drop, length-take-le, take-set-le, take-append-le, take-take}
+use Rattle.std.specs.Prelude.{Result, Ok, Err}
 use Rattle.places.specs.Places.{places_on, places}
 use Rattle.places.proofs.Laws.{places_append, length_places, place_stored}
-use Rattle.ion.specs.Calls.Output.{over, put, room_for, wrote, put_after, wrote_after, refused_writing, Run}
-use Rattle.ion.specs.Calls.Refusal.{short_buffer}
-use Rattle.ion.specs.declared.Written.{Written}
+use Rattle.ion.specs.Calls.Output.{over, put, room_for, wrote, put_after, wrote_after}
+use Rattle.ion.specs.declared.refusal.Refusal.{Refusal}
+use Rattle.ion.specs.declared.refusal.Refusal.TheVariants as refusal
 
 -- ---- a writer's answer and its buffer
 
-pub room_fits : (size at n : ℕ) → at + n ≤ size → room_for size at n ≡ record { number = 0; written = n }
+pub room_fits : (size at n : ℕ) → at + n ≤ size → room_for size at n ≡ Ok n
 unfolding room_for
 room_fits size at n h = rw (le-leb (at + n) size h)
 
-pub room_short : (size at n : ℕ) → size < at + n → room_for size at n ≡ refused_writing short_buffer
+pub room_short : (size at n : ℕ) → size < at + n → room_for size at n ≡ Err refusal.ShortBuffer
 unfolding room_for
 room_short size at n h = rw (lt-leb (at + n) size h)
 
--- a writer whose room was found has put its bytes, and one whose room was not has left the buffer
+-- the bytes are put where there is room, and else the buffer is left
 pub put_fits : (d : List ℕ) (at : ℕ) (s : List ℕ) → at + length s ≤ length d → put d at s ≡ over d at s
 unfolding put
 put_fits d at s h = rw (le-leb (at + length s) (length d) h)
 
-put_short : (d : List ℕ) (at : ℕ) (s : List ℕ) → length d < at + length s → put d at s ≡ d
+pub put_short : (d : List ℕ) (at : ℕ) (s : List ℕ) → length d < at + length s → put d at s ≡ d
 unfolding put
 put_short d at s h = rw (lt-leb (at + length s) (length d) h)
 
--- what every writer of the bytes s shows: w is what `room` answered for them, and so what the writer answers
-module _ (d : List ℕ) (at : ℕ) (s : List ℕ) {w : Written} (answered : w ≡ wrote d at s) where
-  pub has_room_lem : w.number ≡ 0 → at + length s ≤ length d
-  has_room_lem e = go (dec_le (at + length s) (length d))
-    where
-      go : Dec (at + length s ≤ length d) → at + length s ≤ length d
-      go (yes h) = h
-      go (no h) =
-          let short = answered ∙ room_short (length d) at (length s) (omega arith) in
-          let z : short_buffer ≡ 0 = sym (ap (λ (x : Written). x.number) short) ∙ e in
-          absurd (omega arith)
+pub has_room_lem : (d : List ℕ) (at : ℕ) (s : List ℕ) {n : ℕ} → wrote d at s ≡ Ok n → (n ≡ length s) × (at + length s ≤ length d)
+has_room_lem d at s {n} e = go (dec_le (at + length s) (length d))
+  where
+    go : Dec (at + length s ≤ length d) → (n ≡ length s) × (at + length s ≤ length d)
+    go (yes h) = let f = sym e ∙ room_fits (length d) at (length s) h in (cc, h)
+    go (no h) = let f = sym e ∙ room_short (length d) at (length s) (omega arith) in absurd (cc)
 
-  no_room : (w.number ≡ 0 → ⊥) → length d < at + length s
-  no_room e = go (dec_le (at + length s) (length d))
-    where
-      go : Dec (at + length s ≤ length d) → length d < at + length s
-      go (yes h) = absurd (e (ap (λ (x : Written). x.number) (answered ∙ room_fits (length d) at (length s) h)))
-      go (no h) = omega arith
+-- where the answer is a refusal the buffer is left
+pub put_refused : (d : List ℕ) (at : ℕ) (s : List ℕ) {r : Refusal} → wrote d at s ≡ Err r → put d at s ≡ d
+put_refused d at s {r} e = go (dec_le (at + length s) (length d))
+  where
+    go : Dec (at + length s ≤ length d) → put d at s ≡ d
+    go (yes h) = let f = sym e ∙ room_fits (length d) at (length s) h in absurd (cc)
+    go (no h) = put_short d at s (omega arith)
 
-  pub refused_writing_lem : (w.number ≡ 0 → ⊥) → (w ≡ wrote d at s) × (d ≡ put d at s)
-  refused_writing_lem e = (answered, sym (put_short d at s (no_room e)))
-
-  pub written : {e : List ℕ} → w.number ≡ 0 → e ≡ over d at s → (w ≡ wrote d at s) × (e ≡ put d at s)
-  written z p = (answered, p ∙ sym (put_fits d at s (has_room_lem z)))
-
--- a writer that first makes a check, which gave the number n
-module _ (n : ℕ) (d : List ℕ) (at : ℕ) (s : List ℕ) where
-  pub wrote_passed : n ≡ 0 → wrote_after n d at s ≡ wrote d at s
+-- a writer that first makes a check
+module _ {A : Type 0} {c : Result A Refusal} (d : List ℕ) (at : ℕ) (s : List ℕ) where
+  pub wrote_passed : {a : A} → c ≡ Ok a → wrote_after c d at s ≡ wrote d at s
   unfolding wrote_after
   wrote_passed e = rw e
 
-  pub put_passed : n ≡ 0 → put_after n d at s ≡ put d at s
+  pub put_passed : {a : A} → c ≡ Ok a → put_after c d at s ≡ put d at s
   unfolding put_after
   put_passed e = rw e
 
-  pub passed_writing : {w : Written} {e : List ℕ} → n ≡ 0 → (w ≡ wrote d at s) × (e ≡ put d at s)
-      → (w ≡ wrote_after n d at s) × (e ≡ put_after n d at s)
-  passed_writing z p = (p.0 ∙ sym (wrote_passed z), p.1 ∙ sym (put_passed z))
+  pub wrote_stopped : {r : Refusal} → c ≡ Err r → wrote_after c d at s ≡ Err r
+  unfolding wrote_after
+  wrote_stopped e = rw e
 
-  pub stopped_writing : (n ≡ 0 → ⊥) → (refused_writing n ≡ wrote_after n d at s) × (d ≡ put_after n d at s)
-  unfolding wrote_after put_after
-  stopped_writing z = rw (ne_eqb n 0 z) (refl, refl)
+  pub put_stopped : {r : Refusal} → c ≡ Err r → put_after c d at s ≡ d
+  unfolding put_after
+  put_stopped e = rw e
+
+-- one whose check passes, and that then finds no room for n bytes
+pub put_unroomed : {A : Type 0} {c : Result A Refusal} {a : A} {r : Refusal} (d : List ℕ) (at : ℕ) (s : List ℕ) {n : ℕ}
+    → c ≡ Ok a → n ≡ length s → room_for (length d) at n ≡ Err r → d ≡ put_after c d at s
+put_unroomed d at s p z e = sym (put_passed d at s p ∙ put_refused d at s (ap (room_for (length d) at) (sym z) ∙ e))
 
 -- what stands in front of what was put
 take_before : (d : List ℕ) (at : ℕ) (s : List ℕ) (n : ℕ) → n ≤ at → at ≤ length d → take n (over d at s) ≡ take n d
@@ -126,32 +121,7 @@ over_before d at s t n e h =
     ∙ ap (λ (x : List ℕ). take at d ++ x)
     (sym (append_assoc s t (drop (at + n + length t) d)) ∙ ap (λ (j : ℕ). (s ++ t) ++ drop j d) k)
 
--- ---- a copy from the front: `paste` of lib.Seq is the first n of s in place
-
-pub paste_over : (d : List ℕ) (at : ℕ) (s : List ℕ) (n : ℕ) → length s ≡ n → paste d at s n ≡ over d at s
-paste_over d at s n e = rw (← e, take-length s) (append_assoc (take at d) s (drop (at + length s) d))
-
-pub paste_next : (d b : List ℕ) (at : ℕ) (s : List ℕ) (j x : ℕ) → at + length s ≤ length d → j < length s → b ≡ paste d at s j
-    → x ≡ get_or s j 0
-    → set b (at + j) x ≡ paste d at s (j + 1)
-paste_next d b at s j x hd hj eb ex = rw (eb, ex, add-one j) (paste-suc d at s j 0 (omega arith) hj)
-
 -- ---- a store from the back: the places of a number, as `place_stored` of places has them
-
--- a list that begins as d does and goes on with s, and then as d does again
-pub over_is : (d l : List ℕ) (at : ℕ) (s : List ℕ) → take at l ≡ take at d → drop at l ≡ s ++ drop (at + length s) d → l ≡ over d at s
-over_is d l at s e f = sym (take-append-drop at l) ∙ ap₂ ◌++◌ e f
-
--- the loop's end
-pub places_stored : (b : ℕ) (f : ℕ → ℕ) (d l : List ℕ) (at n v i q : ℕ) → i ≡ at → take at l ≡ take at d
-    → places_on b f (i - at) q (drop i l) ≡ places_on b f n v (drop (at + n) d) → l ≡ over d at (places b f n v)
-unfolding places_on places
-places_stored b f d l at n v i q e et el =
-    let z : at - at ≡ 0 = omega arith in
-    over_is d l at (places b f n v) et
-    (rw (e, z) at el
-    ∙ sym (places_append b f n v [] (drop (at + n) d))
-    ∙ ap (λ (m : ℕ). places b f n v ++ drop (at + m) d) (sym (length_places b f n v)))
 
 -- the loop part way: the places of q in front of index i, with what l has from there on, are the n places of v with what d has after them
 pub record Storing (b : ℕ) (f : ℕ → ℕ) (d : List ℕ) (at n v : ℕ) (l : List ℕ) (i q : ℕ) : Type 0 where
@@ -179,27 +149,12 @@ module _ {b : ℕ} {f : ℕ → ℕ} {d : List ℕ} {at n v : ℕ} {l : List ℕ
       }
 
   pub storing_all : i ≤ at → l ≡ over d at (places b f n v)
-  storing_all h = places_stored b f d l at n v i q (omega (arith, s.from)) s.front s.left
-
--- ---- a writer of the bytes s that asks for room for n bytes, is answered w, and puts the bytes t where there is room
-
-pub record Asked (d : List ℕ) (at : ℕ) (s : List ℕ) (n : ℕ) (w : Written) : Type 0 where
-  pub answer : w ≡ room_for (length d) at n
-  pub size : n ≡ length s
-
-module _ {d : List ℕ} {at : ℕ} {s : List ℕ} {n : ℕ} {w : Written} (a : Asked d at s n w) where
-  asked_wrote : w ≡ wrote d at s
-  asked_wrote = a.answer ∙ ap (room_for (length d) at) a.size
-
-  pub asked_room : w.number ≡ 0 → at + n ≤ length d
-  asked_room z = omega (arith, has_room_lem d at s asked_wrote z, a.size)
-
-  pub asked_refused : (w.number ≡ 0 → ⊥) → (w ≡ wrote d at s) × (d ≡ put d at s)
-  asked_refused z = refused_writing_lem d at s asked_wrote z
-
-  pub asked_written : {e t : List ℕ} → w.number ≡ 0 → e ≡ over d at t → t ≡ s → (w ≡ wrote d at s) × (e ≡ put d at s)
-  asked_written z p q = written d at s asked_wrote z (p ∙ ap (over d at) q)
-
--- the same inside a writer, where there is room
-pub put_run : {d e : List ℕ} {at n : ℕ} {s t : List ℕ} → n ≡ length s → e ≡ over d at t → t ≡ s → Run d at s e (at + n)
-put_run {d} {e} {at} size p q = record { bytes = p ∙ ap (over d at) q; next = ap (λ (k : ℕ). at + k) size }
+  unfolding places_on places
+  storing_all h =
+      let e : i ≡ at = omega (arith, s.from) in
+      let z : at - at ≡ 0 = omega arith in
+      sym (take-append-drop at l)
+      ∙ ap₂ ◌++◌ s.front
+      (rw (e, z) at s.left
+      ∙ sym (places_append b f n v [] (drop (at + n) d))
+      ∙ ap (λ (k : ℕ). places b f n v ++ drop (at + k) d) (sym (length_places b f n v)))

@@ -4,11 +4,11 @@ use mathlib.Core.List.{List, [], ◌∷◌}
 use mathlib.Core.Logic.{◌⊎◌, inl, inr}
 use Prim.Native.Nat.{ℕ, ◌+◌, ◌*◌, ◌%◌, ◌^◌, ◌<◌}
 use native.Mathlib.Nat.{mod-one, mul-le-mul_right}
-use native.Mathlib.Decide.{dec_lt, ℕ_discrete}
 use native.Mathlib.Omega.{arith}
 use lib.Dec.{lit<}
 use lib.Arith.{digits_lt}
 use lib.Pow.{pow-add, high, low, mod-pow-add}
+use Rattle.std.proofs.lemmas.Bool.{cases_order}
 use Rattle.ion.specs.Pair.Layout.{total, join, parts, field_at, Within, Before}
 
 -- the field of k bits between what stands above it and s bits below
@@ -53,11 +53,11 @@ join_before (k ∷ ks) (x ∷ xs) (y ∷ ys) hx hy (inl l) = omega (arith, mul-l
 join_before (k ∷ ks) (x ∷ xs) (y ∷ ys) hx hy (inr (e, b)) =
     omega (arith, ap (λ (n : ℕ). n * 2 ^ total ks) e, join_before ks xs ys hx.1 hy.1 b)
 
-before_cases : (x y j i p : ℕ) {B : Type 0} → i < p → (j < i → B) → x * p + j < y * p + i → Dec (x < y) → Dec (x ≡ y)
+before_cases : (x y j i p : ℕ) {B : Type 0} → i < p → (j < i → B) → x * p + j < y * p + i → (x ≡ y) ⊎ ((x < y) ⊎ (y < x))
     → (x < y) ⊎ ((x ≡ y) × B)
-before_cases x y j i p hi go l (yes a) d = inl a
-before_cases x y j i p hi go l (no n) (yes e) = inr (e, go (omega (arith, ap (λ (m : ℕ). m * p) e)))
-before_cases x y j i p hi go l (no n) (no m) = absurd (let b : y < x = omega arith in omega (arith, mul-le-mul_right p b))
+before_cases x y j i p hi go l (inr (inl a)) = inl a
+before_cases x y j i p hi go l (inl e) = inr (e, go (omega (arith, ap (λ (m : ℕ). m * p) e)))
+before_cases x y j i p hi go l (inr (inr b)) = absurd (omega (arith, mul-le-mul_right p b))
 
 pub before_join : (ks xs ys : List ℕ) → Within ks xs → Within ks ys → join ks xs < join ks ys → Before xs ys
 before_join [] [] [] hx hy l = omega arith
@@ -66,5 +66,5 @@ before_join [] (x ∷ xs) ys hx hy l = elim hx [ ]
 before_join (k ∷ ks) [] ys hx hy l = elim hx [ ]
 before_join (k ∷ ks) (x ∷ xs) [] hx hy l = elim hy [ ]
 before_join (k ∷ ks) (x ∷ xs) (y ∷ ys) hx hy l =
-    before_cases x y (join ks xs) (join ks ys) (2 ^ total ks) (join_lt ks ys hy.1) (before_join ks xs ys hx.1 hy.1) l (dec_lt x y)
-    (ℕ_discrete x y)
+    before_cases x y (join ks xs) (join ks ys) (2 ^ total ks) (join_lt ks ys hy.1) (before_join ks xs ys hx.1 hy.1) l
+    (cases_order x y)

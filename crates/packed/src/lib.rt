@@ -1,4 +1,5 @@
-// The packed word: its fields assembled and read out by shifts and masks.
+// The packed word: its fields assembled and read out by shifts and masks. Its precision stays a number, as a word that is not
+// accepted may have 5 to 7; and what is in range or local a fact in contracts, as one type holds the fields of any word.
 #![tactic(auto)]
 
 ghost use Rattle.std.specs.Prelude.{◌≡◌, ◌<◌};
@@ -66,7 +67,6 @@ pub fn pack(f: Fields) -> u64
     requires { InRange f }
     ensures { result ≡ word_of f }
 {
-    let offset = f.offset;
     ((f.year as u64) << YEAR_SHIFT)
         | ((f.month as u64) << MONTH_SHIFT)
         | ((f.day as u64) << DAY_SHIFT)
@@ -75,7 +75,7 @@ pub fn pack(f: Fields) -> u64
         | ((f.second as u64) << SECOND_SHIFT)
         | ((f.precision as u64) << PRECISION_SHIFT)
         | ((f.digits as u64) << SUBSECOND_PRECISION_SHIFT)
-        | ((offset.bits() as u64) << OFFSET_SHIFT)
+        | ((f.offset.bits() as u64) << OFFSET_SHIFT)
 }
 
 // The field of `width` bits that has `shift` bits below it.

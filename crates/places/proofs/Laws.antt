@@ -4,13 +4,17 @@ use mathlib.Core.List.{List, [], ◌∷◌, ◌++◌}
 use Prim.Native.Nat.{ℕ, zero, suc, ◌+◌, ◌-◌, ◌*◌, ◌/◌, ◌%◌, ◌^◌, ◌≤◌, ◌<◌}
 use native.Mathlib.Nat.{pow-zero, pow-suc, pow-succ', zero-add, add-zero, add-suc, one-le-pow, div-one, div-div-eq-div-mul}
 use native.Mathlib.Nat.{div-lt_iff_lt-mul, div-lt_self, div-add-mod', mod-lt, lt_of_lt_of_le, lt_of_le_of_lt, mul_comm, mul-le-mul_left}
-use native.Mathlib.Nat.{mul-suc, pow-le-pow_right, le-div_iff_mul-le}
+use native.Mathlib.Nat.{mul-suc, pow-le-pow_right, le-div_iff_mul-le, sub-zero}
 use native.Mathlib.Decide.{dec_le}
 use native.Mathlib.Omega.{arith}
 use lib.Arith.{mod-mul, digits_div, digits_mod}
 use lib.ListN.{length, drop, set, length-set}
 use lib.Seq.{drop_at, drop-cons, get_or-set_same, drop-set-lt}
-use Rattle.places.specs.Places.{places_on, places, count_in, count, place_count, value_from}
+use Rattle.places.specs.Places.{plain, byte_from, places_on, places, count_in, count, place_count, value_from}
+
+-- a place whose byte is 0 more
+pub zero_byte : byte_from 0 ≡ plain
+zero_byte = λ i d. zero-add d i
 
 -- ---- the places as lists
 
@@ -192,10 +196,15 @@ store_front l i x h k =
     drop-cons (set l (i - 1) x) (i - 1) 0 (simp length-set (omega arith))
     ∙ ap₂ ◌∷◌ (get_or-set_same l (i - 1) x 0 (omega arith)) (rw e (drop-set-lt i l (i - 1) x (omega arith)))
 
--- a turn of the loop: a place in front of those that are stored
+-- a turn of the loop: a place in front of those that are stored, of which the last is to stand at index at
 pub place_stored : (b : ℕ) (f : ℕ → ℕ) (l : List ℕ) (at i q : ℕ) → at < i → i ≤ length l
     → places_on b f (i - 1 - at) (q / b) (drop (i - 1) (set l (i - 1) (f (q % b)))) ≡ places_on b f (i - at) q (drop i l)
 unfolding places_on
 place_stored b f l at i q h k =
     let e : i - at ≡ suc (i - 1 - at) = omega arith in
     rw (store_front l i (f (q % b)) (omega arith) k, e)
+
+-- the same where that is the first index
+pub first_stored : (b : ℕ) (f : ℕ → ℕ) (l : List ℕ) (i q : ℕ) → 0 < i → i ≤ length l
+    → places_on b f (i - 1) (q / b) (drop (i - 1) (set l (i - 1) (f (q % b)))) ≡ places_on b f i q (drop i l)
+first_stored b f l i q h k = simp sub-zero at (place_stored b f l 0 i q h k)

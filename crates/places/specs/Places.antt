@@ -5,6 +5,10 @@ use Rattle.std.specs.Prelude.{ℕ, zero, suc, ◌+◌, ◌*◌, ◌/◌, ◌%◌
 abbrev pub plain : ℕ → ℕ
 plain d = d
 
+-- the byte of a place where that of 0 is c
+abbrev pub byte_from : ℕ → ℕ → ℕ
+byte_from c d = c + d
+
 -- the k lowest places of q in front of t, the byte of each made by f
 unfoldable pub places_on : ℕ → (ℕ → ℕ) → ℕ → ℕ → List ℕ → List ℕ
 places_on b f zero q t = t

@@ -1,4 +1,3 @@
 -- What the proofs of several functions use.
-pub mod Checked
+pub mod Left
 pub mod Parts
-pub mod ReadParts

@@ -5,6 +5,6 @@ mod file;
 mod reader;
 mod writer;
 
-pub use file::check_file;
+pub use file::{Scans, check_file};
 pub use reader::read_scan;
 pub use writer::write_scan;

@@ -1,94 +1,79 @@
--- What is read of a scan, by the answers of its parts: the first refusal, or the scan. Assumes nothing.
-use mathlib.Core.Path.{◌≡◌, refl, sym, ap, subst, ◌∙◌}
+-- A scan by its parts: tag, guard and value, each read where the one before it ends. Assumes nothing.
+use mathlib.Core.Path.{◌≡◌, refl, sym, ap, ◌∙◌}
 use mathlib.Core.List.{List}
-use Prim.Native.Nat.{ℕ, zero, suc, ◌+◌, ◌≤◌}
-use native.Mathlib.Omega.{arith}
-use borrow.Author.Tests.{eq-eqb, ne_eqb}
-use lib.ListN.{length, drop, length-drop}
-use Rattle.ion.specs.Calls.Answered.{answered, first_refusal}
+use Prim.Native.Nat.{ℕ, ◌+◌, ◌≤◌}
+use lib.ListN.{length, drop}
+use Rattle.std.specs.Prelude.{Result, Ok, Err}
+use Rattle.ion.specs.Calls.Answered.{and_then}
 use Rattle.ion.specs.Value.ReadValue.{read_value}
-use Rattle.ion.specs.declared.Read.{Read}
+use Rattle.ion.specs.declared.Timestamp.{Timestamp}
+use Rattle.ion.specs.declared.refusal.Refusal.{Refusal}
 use Rattle.scans.specs.Number.{read_number}
-use Rattle.scans.specs.Scan.{scan_of, refused_scan, accepted_scan, read_scan}
-use Rattle.scans.specs.declared.NumberRead.{NumberRead}
-use Rattle.scans.specs.declared.ScanRead.{ScanRead}
+use Rattle.scans.specs.Scan.{scan_of, read_scan}
+use Rattle.scans.specs.declared.Scan.{Scan}
+use Rattle.places.proofs.Slices.{rest_slice}
+use Rattle.contents.proofs.Passing.{length_rest}
+use Rattle.value_reader.proofs.Readings.{value_within}
 use Rattle.scan_laws.proofs.Numbers.{number_within}
 
--- the scan that the parts make
-abbrev pub accepted : NumberRead → NumberRead → Read → ScanRead
-accepted t g v = accepted_scan (scan_of t.value g.value v.stamp) (t.taken + g.taken + v.taken)
+-- the scan x, of n bytes, is read part by part, of j, k and m bytes
+pub record InParts (s : List ℕ) (x : Scan) (n : ℕ) : Type 0 where
+  pub j : ℕ
+  pub k : ℕ
+  pub m : ℕ
+  pub tag : read_number s ≡ Ok (x.tag, j)
+  pub guard : read_number (drop j s) ≡ Ok (x.guard, k)
+  pub value : read_value (drop (j + k) s) ≡ Ok (x.stamp, m)
+  pub taken : n ≡ j + k + m
 
-abbrev joined : NumberRead → NumberRead → Read → ScanRead
-joined t g v = answered (first_refusal t.number (first_refusal g.number v.number)) (accepted t g v) refused_scan
+pub parts_read : {s : List ℕ} {x : Scan} {n : ℕ} → InParts s x n → read_scan s ≡ Ok (x, n)
+unfolding read_scan
+parts_read p = rw (p.tag, p.guard, p.value, p.taken) refl
 
--- a number ends within the bytes
-within : (s : List ℕ) {n : NumberRead} → n ≡ read_number s → n.number ≡ 0 → n.taken ≤ length s
-within s e z =
-    let ok = ap (λ (m : NumberRead). m.number) (sym e) ∙ z in
-    subst (λ (m : NumberRead). m.taken ≤ length s) (sym e) (number_within s ok).1
+module _ (s : List ℕ) (x : Scan) (n : ℕ) where
+  -- the scan of a value after tag and guard, and of a guard and a value after a tag
+  abbrev with_value : ℕ → ℕ → ℕ → Result (Timestamp × ℕ) Refusal → Result (Scan × ℕ) Refusal
+  with_value t g i r = and_then r (λ (v : Timestamp × ℕ). Ok (scan_of t g v.0, i + v.1))
 
-module _ (s : List ℕ) where
-  -- each part begins where the one before it ends
-  module _ {t : NumberRead} (tag : t ≡ read_number s) where
-    tag_joined : let g = read_number (drop t.taken s) in joined t g (read_value (drop (t.taken + g.taken) s)) ≡ read_scan s
-    unfolding read_scan
-    tag_joined = rw tag
+  abbrev with_guard : ℕ → ℕ → Result (ℕ × ℕ) Refusal → Result (Scan × ℕ) Refusal
+  with_guard t j r = and_then r (λ (g : ℕ × ℕ). with_value t g.0 (j + g.1) (read_value (drop (j + g.1) s)))
 
-    pub tag_refused : (t.number ≡ 0 → ⊥) → refused_scan t.number ≡ read_scan s
-    tag_refused h = sym (simp (ne_eqb t.number 0 h)) ∙ tag_joined
+  pub in_parts : read_scan s ≡ Ok (x, n) → InParts s x n
+  unfolding read_scan
+  in_parts e = tag (read_number s) refl e
+    where
+      value : (t j g k : ℕ) → read_number s ≡ Ok (t, j) → read_number (drop j s) ≡ Ok (g, k)
+          → (r : Result (Timestamp × ℕ) Refusal) → read_value (drop (j + k) s) ≡ r → with_value t g (j + k) r ≡ Ok (x, n) → InParts s x n
+      value t j g k p q (Ok (v, m)) u e =
+          let both : (scan_of t g v, j + k + m) ≡ (x, n) = cc in
+          let same = ap (λ (a : Scan × ℕ). a.0) both in
+          record {
+            j = j;
+            k = k;
+            m = m;
+            tag = p ∙ ap (λ (x : Scan). Ok (x.tag, j)) same;
+            guard = q ∙ ap (λ (x : Scan). Ok (x.guard, k)) same;
+            value = u ∙ ap (λ (x : Scan). Ok (x.stamp, m)) same;
+            taken = sym (ap (λ (a : Scan × ℕ). a.1) both);
+          }
+      value t j g k p q (Err r) u e = absurd cc
 
-    -- it ends within the bytes
-    pub tag_within : t.number ≡ 0 → t.taken ≤ length s
-    tag_within i = within s tag i
+      guard : (t j : ℕ) → read_number s ≡ Ok (t, j) → (r : Result (ℕ × ℕ) Refusal) → read_number (drop j s) ≡ r
+          → with_guard t j r ≡ Ok (x, n) → InParts s x n
+      guard t j p (Ok (g, k)) q e = value t j g k p q (read_value (drop (j + k) s)) refl e
+      guard t j p (Err r) q e = absurd cc
 
-    module _ (i : t.number ≡ 0) {g : NumberRead} (guard : g ≡ read_number (drop t.taken s)) where
-      guard_joined : joined t g (read_value (drop (t.taken + g.taken) s)) ≡ read_scan s
-      guard_joined = rw guard tag_joined
+      tag : (r : Result (ℕ × ℕ) Refusal) → read_number s ≡ r
+          → and_then r (λ (t : ℕ × ℕ). with_guard t.0 t.1 (read_number (drop t.1 s))) ≡ Ok (x, n) → InParts s x n
+      tag (Ok (t, j)) p e = guard t j p (read_number (drop j s)) refl e
+      tag (Err r) p e = absurd cc
 
-      pub guard_refused : (g.number ≡ 0 → ⊥) → refused_scan g.number ≡ read_scan s
-      guard_refused h = sym (simp (eq-eqb t.number 0 i, ne_eqb g.number 0 h)) ∙ guard_joined
+-- ---- lists of laws, for the code: each part ends within the bytes
 
-      -- both numbers end within the bytes
-      pub numbers_within : g.number ≡ 0 → t.taken + g.taken ≤ length s
-      numbers_within j =
-          omega (arith, tag_within i, within (drop t.taken s) guard j, length-drop t.taken s)
+pub number_ends : (s : List ℕ) {v n : ℕ} → read_number s ≡ Ok (v, n) → n ≤ length s
+number_ends s {v} {n} e = (number_within s v n e).1
 
-      module _ (j : g.number ≡ 0) {v : Read} (value : v ≡ read_value (drop (t.taken + g.taken) s)) where
-        value_joined : joined t g v ≡ read_scan s
-        value_joined = rw value guard_joined
+pub value_ends : (s : List ℕ) {v : Timestamp} {n : ℕ} → read_value s ≡ Ok (v, n) → n ≤ length s
+value_ends s {v} {n} e = (value_within s v n e).1
 
-        pub value_refused : (v.number ≡ 0 → ⊥) → refused_scan v.number ≡ read_scan s
-        value_refused h = sym (simp (eq-eqb t.number 0 i, eq-eqb g.number 0 j, ne_eqb v.number 0 h)) ∙ value_joined
-
-        pub scan_accepted : v.number ≡ 0 → accepted t g v ≡ read_scan s
-        scan_accepted h = sym (simp (eq-eqb t.number 0 i, eq-eqb g.number 0 j, eq-eqb v.number 0 h)) ∙ value_joined
-
-  -- ---- and so the parts of a scan that is accepted are accepted
-
-  abbrev pub tag_in : NumberRead
-  tag_in = read_number s
-
-  abbrev pub guard_in : NumberRead
-  guard_in = read_number (drop tag_in.taken s)
-
-  abbrev pub value_in : Read
-  value_in = read_value (drop (tag_in.taken + guard_in.taken) s)
-
-  pub record InParts : Type 0 where
-    pub tag : tag_in.number ≡ 0
-    pub guard : guard_in.number ≡ 0
-    pub value : value_in.number ≡ 0
-    pub whole : accepted tag_in guard_in value_in ≡ read_scan s
-
-  module _ (e : (read_scan s).number ≡ 0) where
-    -- a refusal would be the scan's
-    not_refused : (n : ℕ) → ((n ≡ 0 → ⊥) → refused_scan n ≡ read_scan s) → n ≡ 0
-    not_refused zero h = refl
-    not_refused (suc n) h = ap (λ (r : ScanRead). r.number) (h (λ z. omega arith)) ∙ e
-
-    pub in_parts : InParts
-    in_parts =
-        let t = not_refused tag_in.number (λ h. tag_refused refl h) in
-        let g = not_refused guard_in.number (λ h. guard_refused refl t refl h) in
-        let v = not_refused value_in.number (λ h. value_refused refl t refl g refl h) in
-        record { tag = t; guard = g; value = v; whole = scan_accepted refl t refl g refl v }
+pub ruleset parts = (rest_slice, length_rest, number_ends, value_ends)

@@ -67,13 +67,6 @@ place_at x (y ∷ l) (suc i) d p h e = go (place_at x l i d p.1 (omega arith) e)
     go f true q = absurd (omega (arith, f, same_place x y l (eqb-true x.tag y.tag q), p.0))
     go f false q = ap suc f
 
--- and one whose tag none of them has comes after them
-pub none_there : (x : Scan) (l : List Scan) (d : Scan) → ((i : ℕ) → i < length l → (get_or l i d).tag ≡ x.tag → ⊥) → None x l
-unfolding place_of
-none_there x [] d h = refl
-none_there x (y ∷ l) d h =
-    none_before x y l (ne_eqb x.tag y.tag (λ e. h 0 (omega arith) (sym e))) (none_there x l d (λ i q. h (suc i) (omega arith)))
-
 -- ---- a scan put in its place
 
 pub last_push : (x : Scan) (l : List Scan) → None x l → with_last x l ≡ l ++ (x ∷ [])

@@ -1,10 +1,10 @@
 -- The words of the last kept scans: three for each, and zeros after them. Assumes nothing.
-use Rattle.std.proofs.Common.{◌≡◌, refl, sym, ap, ◌∙◌, ℕ, suc, ◌+◌, ◌-◌, ◌*◌, ◌≤◌, ◌<◌, List, [], ◌∷◌}
-use Rattle.std.proofs.Common.{◌++◌, length, take, drop, get_or, set, replicate, append_assoc, append-nil, length-append, length-drop}
+use Rattle.std.proofs.Common.{◌≡◌, refl, sym, ap, ap₂, ◌∙◌, ℕ, suc, ◌+◌, ◌-◌, ◌*◌, ◌≤◌, ◌<◌, List, [], ◌∷◌}
+use Rattle.std.proofs.Common.{◌++◌, length, take, drop, get_or, set, replicate, append_assoc, length-append, length-drop}
 use Rattle.std.proofs.Common.{drop-cons, subst, arith}
 use Rattle.std.proofs.Math.ListN.{length-replicate}
-use Rattle.std.proofs.lemmas.Grind.{replicate_next}
-use Rattle.std.proofs.Math.Seq.{set-append_seam, length-take-le}
+use Rattle.std.proofs.Math.Seq.{set-append_seam, take-append_seam, drop-append_seam, drop-drop, take_all, length-take-le}
+use borrow.Rule.Slice.PartMut.{put_mid}
 use Rattle.std.proofs.lemmas.List.{take_more}
 use Rattle.ion.specs.Pair.Pair.{word_in}
 use Rattle.ion.specs.Calls.Contents.{in_turn}
@@ -72,44 +72,35 @@ begun_scan {d} {e} l x i b h k =
     ∙ sym (words_push l x) in
     subst (λ (w : List ℕ). Begun d w (set (set (set e i x.tag) (i + 1) (word_in x.stamp)) (i + 2) x.stamp.attoseconds)) same third
 
--- the same of the scans in front of an array
-pub begun_more : {d e : List ℕ} (a : List Scan) (i at : ℕ)
-    → Begun d (words_for (take i a)) e → at ≡ i * word_size → i < length a → at + word_size ≤ length d
-    → let x = get_or a i no_scan in
-    Begun d (words_for (take (i + 1) a)) (set (set (set e at x.tag) (at + 1) (word_in x.stamp)) (at + 2) x.stamp.attoseconds)
-begun_more {d} {e} a i at b h l k =
-    let x = get_or a i no_scan in
-    let n : length (take i a) ≡ i = length-take-le i a (omega arith) in
+-- the same of the first of the scans l
+pub begun_more : {d e : List ℕ} (l : List Scan) (i at : ℕ) (x : Scan)
+    → Begun d (words_for (take i l)) e → at ≡ i * word_size → i < length l → at + word_size ≤ length d → x ≡ get_or l i no_scan
+    → Begun d (words_for (take (i + 1) l)) (set (set (set e at x.tag) (at + 1) (word_in x.stamp)) (at + 2) x.stamp.attoseconds)
+begun_more {d} {e} l i at x b h n k z =
+    let m : length (take i l) ≡ i = length-take-le i l (omega arith) in
     let f = set (set (set e at x.tag) (at + 1) (word_in x.stamp)) (at + 2) x.stamp.attoseconds in
-    subst (λ (m : List Scan). Begun d (words_for m) f) (sym (take_more a i no_scan l)) (begun_scan (take i a) x at b (omega (arith, n)) k)
+    let more = take_more l i no_scan n ∙ ap (λ (y : Scan). take i l ++ (y ∷ [])) (sym z) in
+    subst (λ (m : List Scan). Begun d (words_for m) f) (sym more) (begun_scan (take i l) x at b (omega (arith, m)) k)
 
--- zeros after them: none, and one more
-pub begun_zeros : {d e : List ℕ} (p : List ℕ) (n : ℕ) → n ≡ 0 → Begun d p e → Begun d (p ++ replicate n 0) e
-begun_zeros {d} {e} p n z b =
-    subst (λ (w : List ℕ). Begun d w e) (sym (ap (λ (j : ℕ). p ++ replicate {A = ℕ} j 0) z ∙ append-nil p)) b
-
-pub begun_zero : {d e : List ℕ} (p : List ℕ) (n m i : ℕ) → Begun d (p ++ replicate n 0) e → i ≡ length p + n → m ≡ n + 1 → i < length d
-    → Begun d (p ++ replicate m 0) (set e i 0)
-begun_zero {d} {e} p n m i b h s k =
-    let z = replicate {A = ℕ} n 0 in
-    let at : length (p ++ z) ≡ i = omega (arith, length-append p z, length-replicate {A = ℕ} n 0) in
-    let same : (p ++ z) ++ (0 ∷ []) ≡ p ++ replicate m 0 =
-    append_assoc p z (0 ∷ []) ∙ ap (λ (r : List ℕ). p ++ r) (sym (ap (λ (j : ℕ). replicate {A = ℕ} j 0) s ∙ replicate_next n 0)) in
-    subst (λ (w : List ℕ). Begun d w (set e i 0)) same (begun_next i 0 b at k)
-
--- all of them
-pub begun_all : {d e : List ℕ} (l : List Scan) (n : ℕ) → Begun d (words_for l ++ replicate n 0) e → length l * word_size + n ≡ word_count
-    → e ≡ words_over d l
+-- all of them, and zeros over the others of the 768
+pub begun_all : {d e f : List ℕ} (l : List Scan) (i at m : ℕ) → Begun d (words_for (take i l)) e → length l ≤ i → at ≡ length l * word_size
+    → at ≤ word_count → f ≡ replicate m 0 → m ≡ word_count - at → put_mid at (word_count - at) e f ≡ words_over d l
 unfolding words_over
-begun_all {d} {e} l n b h =
+begun_all {d} {e} {f} l i at m b h n k g q =
     let p = words_for l in
-    let z = replicate {A = ℕ} n 0 in
-    let k : n ≡ word_count - length p = omega (arith, length_words l) in
-    let m : length (p ++ z) ≡ word_count = omega (arith, length-append p z, length-replicate {A = ℕ} n 0, length_words l) in
-    b.words
-    ∙ ap (λ (j : ℕ). (p ++ z) ++ drop j d) m
-    ∙ append_assoc p z (drop word_count d)
-    ∙ ap (λ (j : ℕ). p ++ (replicate {A = ℕ} j 0 ++ drop word_count d)) k
+    let s : at ≡ length p = omega (arith, length_words l) in
+    let rest = word_count - length p in
+    let all : Begun d p e = subst (λ (t : List Scan). Begun d (words_for t) e) (take_all i l h) b in
+    let zeros : f ≡ replicate rest 0 = g ∙ ap (λ (j : ℕ). replicate {A = ℕ} j 0) (q ∙ ap (λ (j : ℕ). word_count - j) s) in
+    let front : take (length p) e ≡ p = ap (take (length p)) all.words ∙ take-append_seam p (drop (length p) d) in
+    let past : drop rest (drop (length p) e) ≡ drop word_count d =
+    ap (λ (t : List ℕ). drop rest (drop (length p) t)) all.words
+    ∙ ap (drop rest) (drop-append_seam p (drop (length p) d))
+    ∙ drop-drop rest (length p) d
+    ∙ ap (λ (j : ℕ). drop j d) (let r : length p + rest ≡ word_count = omega arith in r) in
+    ap (λ (j : ℕ). put_mid j (word_count - j) e f) s
+    ∙ ap (λ (t : List ℕ). t ++ (f ++ drop rest (drop (length p) e))) front
+    ∙ ap₂ (λ (z t : List ℕ). p ++ (z ++ t)) zeros past
 
 -- there are as many words as were lent
 pub words_length : (d : List ℕ) (l : List Scan) → word_count ≤ length d → length l * word_size ≤ word_count

@@ -1,3 +1,4 @@
 -- What the contracts of the report's own functions cite.
-pub mod Moment
 pub mod Kept
+pub mod Tallied
+pub mod Longer

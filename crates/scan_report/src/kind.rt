@@ -1,37 +1,35 @@
 // What a scan is beside the last kept one, and what scans of each kind count.
-ghost use Rattle.std.specs.Prelude.{◌≡◌, ◌+◌, ◌*◌, ◌^◌, ◌<◌};
+ghost use Rattle.std.specs.Prelude.{◌≡◌, ◌+◌, ◌^◌, ◌<◌};
+ghost use Rattle.scan_report.specs.Longer.{is_longer};
 ghost use Rattle.scans.specs.Tally.{added, counts_of, kind_beside};
 
-use crate::moment::Moment;
+use ion::Distance;
+use order::Count;
 use scans::{Counts, Kind};
 
-// By the moments of the last kept one and of the scan.
-pub(crate) fn kind_beside(w: u32, g: u32, last: Moment, moment: Moment) -> Kind
-    requires last { last.attoseconds < 10 ^ 18 }
-    requires moment { moment.attoseconds < 10 ^ 18 }
-    ensures { result ≡ kind_beside w g (last.seconds * 10 ^ 18 + last.attoseconds)
-        (moment.seconds * 10 ^ 18 + moment.attoseconds) }
+// Whether a distance is more than `g` seconds.
+fn is_longer(d: Distance, g: u32) -> bool
+    ensures { result ≡ is_longer g d }
 {
-    let d = order::distance_of_counts(
-        moment.seconds,
-        moment.attoseconds,
-        last.seconds,
-        last.attoseconds,
-    );
-    if d.seconds < w as u64 {
-        return Kind::Double;
-    }
-    if d.sign < 0 {
-        return Kind::Backward;
-    }
     let gap = g as u64;
-    if gap < d.seconds {
-        return Kind::Gap;
+    gap < d.seconds || (d.seconds == gap && 0 < d.attoseconds)
+}
+
+// By the counts of the last kept one and of the scan.
+#[tactic(auto, using(crate::proofs::KindsByDistance::kinds))]
+pub(crate) fn kind_beside(w: u32, g: u32, last: Count, count: Count) -> Kind
+    ensures { result ≡ kind_beside w g last count }
+{
+    let d = count.distance(last);
+    if d.seconds < w as u64 {
+        Kind::Double
+    } else if d.order.is_lt() {
+        Kind::Backward
+    } else if is_longer(d, g) {
+        Kind::Gap
+    } else {
+        Kind::Kept
     }
-    if d.seconds == gap && 0 < d.attoseconds {
-        return Kind::Gap;
-    }
-    Kind::Kept
 }
 
 // With a scan of a kind more.
@@ -43,32 +41,26 @@ pub(crate) fn counted(c: Counts, kind: Kind) -> Counts
     let scans = c.scans + 1;
     match kind {
         Kind::Double => Counts {
-            scans: scans,
+            scans,
             doubles: c.doubles + 1,
-            kept: c.kept,
-            gaps: c.gaps,
-            backward: c.backward,
+            ..c
         },
         Kind::Kept => Counts {
-            scans: scans,
-            doubles: c.doubles,
+            scans,
             kept: c.kept + 1,
-            gaps: c.gaps,
-            backward: c.backward,
+            ..c
         },
         Kind::Gap => Counts {
-            scans: scans,
-            doubles: c.doubles,
+            scans,
             kept: c.kept + 1,
             gaps: c.gaps + 1,
-            backward: c.backward,
+            ..c
         },
         Kind::Backward => Counts {
-            scans: scans,
-            doubles: c.doubles,
+            scans,
             kept: c.kept + 1,
-            gaps: c.gaps,
             backward: c.backward + 1,
+            ..c
         },
     }
 }

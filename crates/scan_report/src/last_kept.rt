@@ -1,11 +1,11 @@
 // The last kept scan of each tag, in the order of the tags' first scans.
 ghost use Rattle.std.specs.Prelude.{◌≡◌, ◌≤◌, ◌<◌, ◌+◌, List, [], length, get_or};
+ghost use Rattle.ion.specs.Pair.Count.{count_of};
 ghost use Rattle.scans.specs.Tally.{no_scan, place_of, with_last};
 ghost use Rattle.scans.specs.Report.{word_count, words_over};
-ghost use Rattle.scan_report.specs.Moment.{IsMoment};
 
-use crate::moment::Moment;
 use ion::Timestamp;
+use order::Count;
 use scans::Scan;
 use std::marker::Model;
 
@@ -24,8 +24,9 @@ fn hint_of(tag: u32) -> usize
 
 #[derive(Drop)]
 pub(crate) struct LastKept {
+    // Arrays and `len`, as there is no heap; no array of pairs, as a search walks the scans alone, and they are what a contract sees.
     scans: [Scan; 256],
-    moments: [Moment; 256],
+    counts: [Count; 256],
     // Where the tag of each hash may stand. A wrong hint costs a search.
     hints: [u8; 1024],
     len: usize,
@@ -40,7 +41,7 @@ impl Model for LastKept {
 
     ghost view = { λ k. take k.len k.scans };
 
-    ghost invariant = { λ k. IsKept k.len k.scans k.moments };
+    ghost invariant = { λ k. IsKept k.len k.scans k.counts };
 }
 
 impl LastKept {
@@ -57,10 +58,7 @@ impl LastKept {
         };
         LastKept {
             scans: [none; 256],
-            moments: [Moment {
-                seconds: 0,
-                attoseconds: 0,
-            }; 256],
+            counts: [Count::ZERO; 256],
             hints: [0; 1024],
             len: 0,
         }
@@ -72,7 +70,7 @@ impl LastKept {
         self.len
     }
 
-    // The place of the tag of `x`: past the last where it has none.
+    // The place of the tag of `x`: past the last where it has none, which is where it is kept, so no Option.
     pub fn place(&self, x: Scan) -> usize
         ensures { result ≡ place_of x self.now }
     {
@@ -80,33 +78,31 @@ impl LastKept {
         if hint < self.len && self.scans[hint].tag == x.tag {
             return hint;
         }
-        for i in 0..self.len {
-            if self.scans[i].tag == x.tag {
-                return i;
-            }
-        }
-        self.len
+        self.scans[..self.len]
+            .iter()
+            .position(|kept| kept.tag == x.tag)
+            .unwrap_or(self.len)
     }
 
-    // The moment of the scan at a place.
-    pub fn moment(&self, place: usize) -> Moment
+    // The count of the scan at a place. A place below 256 stays a number: the tally tests it once, for the refusal of a 257th tag.
+    pub fn count(&self, place: usize) -> Count
         requires place { place < length self.now }
         requires room { place < 256 }
-        ensures { IsMoment (get_or self.now place no_scan).stamp result }
+        ensures { result ≡ count_of (get_or self.now place no_scan).stamp }
     {
-        self.moments[place]
+        self.counts[place]
     }
 
     // Puts `x` in its place.
     #[tactic(auto, using(crate::proofs::Kept::putting))]
-    pub fn keep(&mut self, place: usize, x: Scan, moment: Moment)
+    pub fn keep(&mut self, place: usize, x: Scan, count: Count)
         requires place { place ≡ place_of x self.old }
-        requires counted { IsMoment x.stamp moment }
+        requires counted { count ≡ count_of x.stamp }
         requires room { place < 256 }
         ensures { self.new ≡ with_last x self.old }
     {
         self.scans[place] = x;
-        self.moments[place] = moment;
+        self.counts[place] = count;
         self.hints[hint_of(x.tag)] = (place % 256) as u8;
         if place == self.len {
             self.len += 1;
@@ -118,16 +114,14 @@ impl LastKept {
         requires { word_count ≤ length words.old }
         ensures { words.new ≡ words_over words.old self.now }
     {
+        // An index: of the words behind chunks of an `iter_mut` a proof knows nothing afterwards, and the zeros begin at it.
         let mut at = 0;
-        for i in 0..self.len {
-            let x = self.scans[i];
+        for x in &self.scans[..self.len] {
             words[at] = x.tag as u64;
             words[at + 1] = x.stamp.packed_fields;
             words[at + 2] = x.stamp.attoseconds;
             at += 3;
         }
-        for j in at..WORD_COUNT {
-            words[j] = 0;
-        }
+        words[at..WORD_COUNT].fill(0);
     }
 }

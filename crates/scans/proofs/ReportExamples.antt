@@ -11,7 +11,7 @@ use Rattle.ion.specs.Pair.Word.{word_of, fields_of}
 use Rattle.ion.specs.Pair.Pair.{packed_pair}
 use Rattle.ion.specs.Pair.Fraction.{capped}
 use Rattle.ion.specs.Pair.Count.{count_of}
-use Rattle.ion.specs.Calls.Build.{build_number, build_pair, build_of}
+use Rattle.ion.specs.Calls.Build.{build_checks, build_pair, build_of}
 use Rattle.ion.specs.Calls.Check.{check_of}
 use Rattle.ion.specs.Calls.Contents.{contents_from, contents, in_turn}
 use Rattle.ion.specs.Calls.Utc.{utc_fields}
@@ -23,15 +23,17 @@ use Rattle.scans.specs.Number.{read_number}
 use Rattle.scans.specs.Scan.{scan_of, scan_bytes, read_scan}
 use Rattle.scans.specs.File.{contents_of, file_bytes}
 use Rattle.scans.specs.Tally.{place_of, with_last, kind_beside, kind_of, counts_with, no_counts, tally_from}
-use Rattle.scans.specs.Report.{words_for, words_over, lent_number, file_number, reported, refused_report, report_of, words_after}
+use Rattle.scans.specs.Report.{words_for, words_over, lent_check, file_check, report_of, words_after}
 use Rattle.scans.specs.declared.Scan.{Scan}
 use Rattle.scans.specs.declared.Counts.{Counts}
-use Rattle.scans.specs.declared.Report.{Report}
+use Rattle.std.specs.Prelude.{Result, Ok, Err}
+use Rattle.ion.specs.declared.refusal.Refusal.{Refusal}
+use Rattle.ion.specs.declared.refusal.Refusal.TheVariants as refusal
 
 -- ---- what a row states: a report, and the words after it
 
 pub record Reported : Type 0 where
-  pub report : Report
+  pub report : Result Counts Refusal
   pub words : List ℕ
 
 pub record Row : Type 0 where
@@ -86,14 +88,14 @@ reports : ℕ → ℕ → List ℕ → Counts → List ℕ → Row
 reports w g s c words =
     record {
       given = record { report = report_of (lent 770) w g s; words = words_after (lent 770) w g s };
-      stated = record { report = reported c; words = words ++ (replicate {A = ℕ} (768 - length words) 0 ++ (7 ∷ 7 ∷ [])) };
+      stated = record { report = Ok c; words = words ++ (replicate {A = ℕ} (768 - length words) 0 ++ (7 ∷ 7 ∷ [])) };
     }
 
-refuses : ℕ → ℕ → List ℕ → ℕ → Row
-refuses size w s n =
+refuses : ℕ → ℕ → List ℕ → Refusal → Row
+refuses size w s r =
     record {
       given = record { report = report_of (lent size) w 0 s; words = words_after (lent size) w 0 s };
-      stated = record { report = refused_report n; words = lent size };
+      stated = record { report = Err r; words = lent size };
     }
 
 pub report_rows : List Row
@@ -127,32 +129,32 @@ report_rows =
     -- the longest W and G
     ∷ reports 86400 4294967295 (file_bytes (at 9 10 ∷ at 9 11 ∷ [])) (counts_with 2 1 1 0 0) (words_at 9 10)
     -- too few words, before W; W too long, before the file; nothing lent
-    ∷ refuses 767 60 (file_bytes (at 9 10 ∷ [])) 20
-    ∷ refuses 767 86401 (0x00 ∷ []) 20
-    ∷ refuses 0 60 [] 20
-    ∷ refuses 768 86401 (file_bytes (at 9 10 ∷ [])) 21
-    ∷ refuses 768 86401 (0x00 ∷ 0x80 ∷ []) 21
+    ∷ refuses 767 60 (file_bytes (at 9 10 ∷ [])) refusal.Words
+    ∷ refuses 767 86401 (0x00 ∷ []) refusal.Words
+    ∷ refuses 0 60 [] refusal.Words
+    ∷ refuses 768 86401 (file_bytes (at 9 10 ∷ [])) refusal.Window
+    ∷ refuses 768 86401 (0x00 ∷ 0x80 ∷ []) refusal.Window
     -- damage, after a scan too
-    ∷ refuses 768 60 (0x00 ∷ []) 13
-    ∷ refuses 768 60 (0x00 ∷ 0x80 ∷ []) 19
-    ∷ refuses 769 60 (file_bytes (at 9 10 ∷ []) ++ (0x80 ∷ 0x80 ∷ 0x6f ∷ [])) 14
-    ∷ refuses 769 60 (file_bytes (at 9 10 ∷ []) ++ (0x80 ∷ 0x80 ∷ 0x60 ∷ [])) 15
+    ∷ refuses 768 60 (0x00 ∷ []) refusal.InputEnds
+    ∷ refuses 768 60 (0x00 ∷ 0x80 ∷ []) refusal.Number
+    ∷ refuses 769 60 (file_bytes (at 9 10 ∷ []) ++ (0x80 ∷ 0x80 ∷ 0x6f ∷ [])) refusal.FirstByte
+    ∷ refuses 769 60 (file_bytes (at 9 10 ∷ []) ++ (0x80 ∷ 0x80 ∷ 0x60 ∷ [])) refusal.Body
     -- 256 tags, and a scan more of one of them; a 257th; damage after it, in it, and before it
     ∷ reports 60 60 (file_bytes (tags_below 256)) (counts_with 256 0 256 0 0) (words_below 256)
     ∷ reports 60 60 (file_bytes (tags_below 256 ++ (year_one 255 ∷ []))) (counts_with 257 1 256 0 0) (words_below 256)
-    ∷ refuses 768 60 (file_bytes (tags_below 257)) 22
-    ∷ refuses 768 60 (file_bytes (tags_below 257) ++ (0x00 ∷ 0x80 ∷ [])) 22
-    ∷ refuses 768 60 (file_bytes (tags_below 256) ++ (0x02 ∷ 0x80 ∷ 0x80 ∷ 0x6f ∷ [])) 14
-    ∷ refuses 768 60 (file_bytes (tags_below 256) ++ (0x00 ∷ 0x80 ∷ file_bytes (year_one 256 ∷ []))) 19
+    ∷ refuses 768 60 (file_bytes (tags_below 257)) refusal.Tags
+    ∷ refuses 768 60 (file_bytes (tags_below 257) ++ (0x00 ∷ 0x80 ∷ [])) refusal.Tags
+    ∷ refuses 768 60 (file_bytes (tags_below 256) ++ (0x02 ∷ 0x80 ∷ 0x80 ∷ 0x6f ∷ [])) refusal.FirstByte
+    ∷ refuses 768 60 (file_bytes (tags_below 256) ++ (0x00 ∷ 0x80 ∷ file_bytes (year_one 256 ∷ []))) refusal.Number
     ∷ []
 
 -- every row
 pub report_examples : map (λ (r : Row). r.given) report_rows ≡ map (λ (r : Row). r.stated) report_rows
 unfolding report_rows clock_word at finer words_at p9_east p9_west year_one tags_below words_below lent reports refuses places_on places
     count_in count place_count value_from groups varuint scan_from read_var_uint signed_count signed varint read_var_int int_count int
-    read_int decimal_bytes is_leap month_length_of sum_below word_of fields_of capped count_of build_of build_number build_pair check_of
+    read_int decimal_bytes is_leap month_length_of sum_below word_of fields_of capped count_of build_of build_checks build_pair check_of
     utc_fields offset_bytes varuints field_count fraction_bytes body_from body_of header value_of decode_offset decode_fields
     decode_fraction filled precision_with decode_body pair_from same is_body_of read_body read_after read_length read_value contents_from
     contents in_turn read_number scan_bytes read_scan contents_of file_bytes place_of with_last kind_beside kind_of tally_from words_for
-    words_over lent_number file_number report_of words_after
+    words_over lent_check file_check report_of words_after
 report_examples = refl

@@ -14,30 +14,30 @@ use Rattle.ion.specs.Pair.Word.{word_of, fields_of}
 use Rattle.ion.specs.Pair.Pair.{packed_pair}
 use Rattle.ion.specs.Pair.Fraction.{capped}
 use Rattle.ion.specs.Calls.Output.{put, room_for, put_after, wrote_after}
-use Rattle.ion.specs.Calls.Build.{build_number, build_pair, build_of}
+use Rattle.ion.specs.Calls.Build.{build_checks, build_pair, build_of}
 use Rattle.ion.specs.Calls.Check.{check_of}
 use Rattle.ion.specs.Calls.Contents.{contents_from, contents, in_turn}
 use Rattle.ion.specs.Calls.Utc.{utc_fields}
 use Rattle.ion.specs.Value.Encode.{offset_bytes, varuints, field_count, fraction_bytes, body_from, body_of, header, value_of}
 use Rattle.ion.specs.Value.Decode.{decode_offset, decode_fields, decode_fraction, filled, precision_with, decode_body, pair_from}
 use Rattle.ion.specs.Value.ReadValue.{same, is_body_of, read_body, read_after, read_length, read_value}
-use Rattle.ion.specs.declared.Written.{Written}
+use Rattle.std.specs.Prelude.{Result, Ok, Err}
+use Rattle.ion.specs.declared.refusal.Refusal.{Refusal}
+use Rattle.ion.specs.declared.refusal.Refusal.TheVariants as refusal
 use Rattle.scans.specs.Number.{read_number}
-use Rattle.scans.specs.Scan.{scan_of, scan_bytes, scan_number, refused_scan, accepted_scan, read_scan}
+use Rattle.scans.specs.Scan.{scan_of, scan_bytes, scan_check, read_scan}
 use Rattle.scans.specs.File.{contents_of, file_bytes, check_file_of}
 use Rattle.scans.specs.declared.Scan.{Scan}
-use Rattle.scans.specs.declared.ScanRead.{ScanRead}
-use Rattle.scans.specs.declared.FileRead.{FileRead}
 
 -- ---- what a row states
 
 pub data Answer : Type 0 where
-  scan : ScanRead → Answer
-  -- a file's scans before its end or damage, its number, and its check
-  file : List Scan → ℕ → FileRead → Answer
+  scan : Result (Scan × ℕ) Refusal → Answer
+  -- a file's scans before its end or damage, how they end, and its check
+  file : List Scan → Result Unit Refusal → Result ℕ Refusal → Answer
   bytes : List ℕ → Answer
   -- a writer's answer, and the buffer after it
-  written : Written → List ℕ → Answer
+  written : Result ℕ Refusal → List ℕ → Answer
 
 -- what the definitions give, and what is stated
 pub record Row : Type 0 where
@@ -92,38 +92,31 @@ last_bytes = most ++ (most ++ longest)
 -- ---- rows
 
 takes : List ℕ → Scan → ℕ → Row
-takes s x n = row (scan (read_scan s)) (scan (accepted_scan x n))
+takes s x n = row (scan (read_scan s)) (scan (Ok (x, n)))
 
-refuses : List ℕ → ℕ → Row
-refuses s n = row (scan (read_scan s)) (scan (refused_scan n))
+refuses : List ℕ → Refusal → Row
+refuses s r = row (scan (read_scan s)) (scan (Err r))
 
 -- the n shortest beginnings of a scan's bytes
 cuts : ℕ → List ℕ → List Row
 cuts zero s = []
-cuts (suc n) s = refuses (take n s) 13 ∷ cuts n s
+cuts (suc n) s = refuses (take n s) refusal.InputEnds ∷ cuts n s
 
 holds : List ℕ → List Scan → Row
-holds s xs =
-    row (file (contents_of s).items (contents_of s).number (check_file_of s)) (file xs 0 (record { number = 0; scans = length xs }))
+holds s xs = row (file (contents_of s).items (contents_of s).ending (check_file_of s)) (file xs (Ok tt) (Ok (length xs)))
 
-damaged : List ℕ → List Scan → ℕ → Row
-damaged s xs n = row (file (contents_of s).items (contents_of s).number (check_file_of s)) (file xs n (record { number = n; scans = 0 }))
+damaged : List ℕ → List Scan → Refusal → Row
+damaged s xs r = row (file (contents_of s).items (contents_of s).ending (check_file_of s)) (file xs (Err r) (Err r))
 
 filler : ℕ → List ℕ
 filler n = replicate {A = ℕ} n 0xaa
 
 -- a scan written from index at on into n bytes AA
-writes : ℕ → ℕ → Scan → Written → List ℕ → Row
+writes : ℕ → ℕ → Scan → Result ℕ Refusal → List ℕ → Row
 writes n at x w e =
     let d = filler n in
-    let given = written (wrote_after (scan_number x) d at (scan_bytes x)) (put_after (scan_number x) d at (scan_bytes x)) in
+    let given = written (wrote_after (scan_check x) d at (scan_bytes x)) (put_after (scan_check x) d at (scan_bytes x)) in
     row given (written w e)
-
-wrote : ℕ → Written
-wrote n = record { number = 0; written = n }
-
-refused_with : ℕ → Written
-refused_with n = record { number = n; written = 0 }
 
 pub scan_rows : List Row
 scan_rows =
@@ -133,63 +126,63 @@ scan_rows =
     ∷ takes second_bytes second 12
     ∷ takes (0xff ∷ 0x01 ∷ 0x80 ∷ year1) (scan_of 127 128 first.stamp) 6
     ∷ takes last_bytes last 30
-    -- a tag cut short: 13, even where no end mark could save it
-    ∷ refuses [] 13
-    ∷ refuses (0x00 ∷ []) 13
-    ∷ refuses (0x7f ∷ 0x7f ∷ 0x7f ∷ 0x7f ∷ []) 13
-    -- padded, without an end mark in five bytes, too large at it: 19
-    ∷ refuses (0x00 ∷ 0x80 ∷ []) 19
-    ∷ refuses (0x00 ∷ 0x82 ∷ []) 19
-    ∷ refuses (0x00 ∷ 0x00 ∷ []) 19
-    ∷ refuses unmarked 19
-    ∷ refuses (unmarked ++ (0x80 ∷ first_bytes)) 19
-    ∷ refuses above 19
-    ∷ refuses (above ++ (0x80 ∷ year1)) 19
-    ∷ refuses (0x7f ∷ 0x7f ∷ 0x7f ∷ 0x7f ∷ 0xff ∷ []) 19
+    -- a tag cut short: the input ends, even where no end mark could save it
+    ∷ refuses [] refusal.InputEnds
+    ∷ refuses (0x00 ∷ []) refusal.InputEnds
+    ∷ refuses (0x7f ∷ 0x7f ∷ 0x7f ∷ 0x7f ∷ []) refusal.InputEnds
+    -- padded, without an end mark in five bytes, too large at it: the number
+    ∷ refuses (0x00 ∷ 0x80 ∷ []) refusal.Number
+    ∷ refuses (0x00 ∷ 0x82 ∷ []) refusal.Number
+    ∷ refuses (0x00 ∷ 0x00 ∷ []) refusal.Number
+    ∷ refuses unmarked refusal.Number
+    ∷ refuses (unmarked ++ (0x80 ∷ first_bytes)) refusal.Number
+    ∷ refuses above refusal.Number
+    ∷ refuses (above ++ (0x80 ∷ year1)) refusal.Number
+    ∷ refuses (0x7f ∷ 0x7f ∷ 0x7f ∷ 0x7f ∷ 0xff ∷ []) refusal.Number
     -- the same of a guard
-    ∷ refuses (0x80 ∷ []) 13
-    ∷ refuses (0x80 ∷ 0x00 ∷ []) 13
-    ∷ refuses (most ++ (0x7f ∷ 0x7f ∷ 0x7f ∷ 0x7f ∷ [])) 13
-    ∷ refuses (0x80 ∷ 0x00 ∷ 0x80 ∷ year1) 19
-    ∷ refuses (0x80 ∷ unmarked) 19
-    ∷ refuses (0x80 ∷ (above ++ year1)) 19
+    ∷ refuses (0x80 ∷ []) refusal.InputEnds
+    ∷ refuses (0x80 ∷ 0x00 ∷ []) refusal.InputEnds
+    ∷ refuses (most ++ (0x7f ∷ 0x7f ∷ 0x7f ∷ 0x7f ∷ [])) refusal.InputEnds
+    ∷ refuses (0x80 ∷ 0x00 ∷ 0x80 ∷ year1) refusal.Number
+    ∷ refuses (0x80 ∷ unmarked) refusal.Number
+    ∷ refuses (0x80 ∷ (above ++ year1)) refusal.Number
     -- a bad value after good numbers, and after a bad one
-    ∷ refuses (0x80 ∷ 0x80 ∷ []) 13
-    ∷ refuses (0x80 ∷ 0x80 ∷ 0x6e ∷ []) 13
-    ∷ refuses (0x80 ∷ 0x80 ∷ 0x6f ∷ []) 14
-    ∷ refuses (0x80 ∷ 0x80 ∷ 0x80 ∷ []) 14
-    ∷ refuses (0x80 ∷ 0x80 ∷ 0x60 ∷ []) 15
-    ∷ refuses (0x80 ∷ 0x80 ∷ 0x6e ∷ 0x8d ∷ []) 15
-    ∷ refuses (0x80 ∷ 0x80 ∷ 0x62 ∷ 0xc0 ∷ 0x80 ∷ []) 15
-    ∷ refuses (0x80 ∷ 0x00 ∷ 0x80 ∷ 0x6f ∷ []) 19
-    ∷ refuses (0x00 ∷ 0x00 ∷ 0x6f ∷ []) 19
+    ∷ refuses (0x80 ∷ 0x80 ∷ []) refusal.InputEnds
+    ∷ refuses (0x80 ∷ 0x80 ∷ 0x6e ∷ []) refusal.InputEnds
+    ∷ refuses (0x80 ∷ 0x80 ∷ 0x6f ∷ []) refusal.FirstByte
+    ∷ refuses (0x80 ∷ 0x80 ∷ 0x80 ∷ []) refusal.FirstByte
+    ∷ refuses (0x80 ∷ 0x80 ∷ 0x60 ∷ []) refusal.Body
+    ∷ refuses (0x80 ∷ 0x80 ∷ 0x6e ∷ 0x8d ∷ []) refusal.Body
+    ∷ refuses (0x80 ∷ 0x80 ∷ 0x62 ∷ 0xc0 ∷ 0x80 ∷ []) refusal.Body
+    ∷ refuses (0x80 ∷ 0x00 ∷ 0x80 ∷ 0x6f ∷ []) refusal.Number
+    ∷ refuses (0x00 ∷ 0x00 ∷ 0x6f ∷ []) refusal.Number
     -- files: empty, of scans, cut, damaged between scans, damaged in a value; what follows the damage is not read
     ∷ holds [] []
     ∷ holds (first_bytes ++ (second_bytes ++ last_bytes)) (first ∷ second ∷ last ∷ [])
-    ∷ damaged (0x00 ∷ []) [] 13
-    ∷ damaged (first_bytes ++ (0x80 ∷ [])) (first ∷ []) 13
-    ∷ damaged (first_bytes ++ (0x00 ∷ 0x82 ∷ second_bytes)) (first ∷ []) 19
-    ∷ damaged (first_bytes ++ (second_bytes ++ (0x80 ∷ 0x80 ∷ 0x6f ∷ first_bytes))) (first ∷ second ∷ []) 14
+    ∷ damaged (0x00 ∷ []) [] refusal.InputEnds
+    ∷ damaged (first_bytes ++ (0x80 ∷ [])) (first ∷ []) refusal.InputEnds
+    ∷ damaged (first_bytes ++ (0x00 ∷ 0x82 ∷ second_bytes)) (first ∷ []) refusal.Number
+    ∷ damaged (first_bytes ++ (second_bytes ++ (0x80 ∷ 0x80 ∷ 0x6f ∷ first_bytes))) (first ∷ second ∷ []) refusal.FirstByte
     -- scans written: alone and one after another
     ∷ row (bytes (scan_bytes first)) (bytes first_bytes)
     ∷ row (bytes (file_bytes (first ∷ second ∷ last ∷ []))) (bytes (first_bytes ++ (second_bytes ++ last_bytes)))
-    ∷ writes 5 0 first (wrote 5) first_bytes
-    ∷ writes 7 1 first (wrote 5) (0xaa ∷ (first_bytes ++ (0xaa ∷ [])))
+    ∷ writes 5 0 first (Ok 5) first_bytes
+    ∷ writes 7 1 first (Ok 5) (0xaa ∷ (first_bytes ++ (0xaa ∷ [])))
     -- refused: no room, past the end, a pair that the builder never gives, even without room
-    ∷ writes 4 0 first (refused_with 16) (filler 4)
-    ∷ writes 5 6 first (refused_with 16) (filler 5)
-    ∷ writes 9 0 (scan_of 0 0 (packed_pair 0x0004420000000000 1)) (refused_with 12) (filler 9)
-    ∷ writes 0 0 (scan_of 0 0 (packed_pair 0 0)) (refused_with 11) []
+    ∷ writes 4 0 first (Err refusal.ShortBuffer) (filler 4)
+    ∷ writes 5 6 first (Err refusal.ShortBuffer) (filler 5)
+    ∷ writes 9 0 (scan_of 0 0 (packed_pair 0x0004420000000000 1)) (Err refusal.Pair) (filler 9)
+    ∷ writes 0 0 (scan_of 0 0 (packed_pair 0 0)) (Err refusal.LocalYear) []
     -- every beginning of a scan is cut short
     ∷ (cuts 5 first_bytes ++ (cuts 12 second_bytes ++ cuts 30 last_bytes))
 
 -- every row
 pub scan_examples : map (λ (r : Row). r.given) scan_rows ≡ map (λ (r : Row). r.stated) scan_rows
 unfolding scan_rows row year1 p3 longest most unmarked above first first_bytes second second_bytes last last_bytes takes refuses cuts holds
-    damaged filler writes wrote refused_with places_on places count_in count place_count value_from groups varuint scan_from read_var_uint
+    damaged filler writes places_on places count_in count place_count value_from groups varuint scan_from read_var_uint
     signed_count signed varint read_var_int int_count int read_int decimal_bytes is_leap month_length_of sum_below word_of fields_of capped
-    build_of build_number build_pair check_of utc_fields offset_bytes varuints field_count fraction_bytes body_from body_of header value_of
+    build_of build_checks build_pair check_of utc_fields offset_bytes varuints field_count fraction_bytes body_from body_of header value_of
     decode_offset decode_fields decode_fraction filled precision_with decode_body pair_from same is_body_of read_body read_after read_length
-    read_value put room_for put_after wrote_after contents_from contents in_turn read_number scan_bytes scan_number read_scan contents_of
+    read_value put room_for put_after wrote_after contents_from contents in_turn read_number scan_bytes scan_check read_scan contents_of
     file_bytes check_file_of
 scan_examples = refl

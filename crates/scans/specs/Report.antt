@@ -1,15 +1,16 @@
 -- The report over a file: its counts, and the words that hold the last kept scan of each tag. Assumes nothing.
-use Rattle.std.specs.Prelude.{ℕ, ◌-◌, List, [], ◌∷◌, ◌++◌, ltb, length, drop, replicate}
+use Rattle.std.specs.Prelude.{ℕ, ◌-◌, List, [], ◌∷◌, ◌++◌, ltb, length, drop, replicate, Result, Ok}
+use Rattle.std.specs.Result.{result_and}
 use Rattle.ion.specs.Pair.Pair.{word_in}
-use Rattle.ion.specs.Calls.Refusal.{words_refused, window_refused, tags_refused}
-use Rattle.ion.specs.Calls.Answered.{answered, first_refusal}
+use Rattle.ion.specs.Calls.Answered.{where_ok}
 use Rattle.ion.specs.Calls.Build.{first_of}
 use Rattle.ion.specs.Calls.Contents.{in_turn}
 use Rattle.scans.specs.File.{contents_of}
-use Rattle.scans.specs.Tally.{Tally, no_counts, tally_of}
+use Rattle.scans.specs.Tally.{Tally, tally_of}
 use Rattle.scans.specs.declared.Scan.{Scan}
 use Rattle.scans.specs.declared.Counts.{Counts}
-use Rattle.scans.specs.declared.Report.{Report}
+use Rattle.ion.specs.declared.refusal.Refusal.{Refusal}
+use Rattle.ion.specs.declared.refusal.Refusal.TheVariants as refusal
 
 -- ---- the words
 
@@ -42,29 +43,25 @@ longest_window = 86400
 abbrev pub file_tally : ℕ → ℕ → List ℕ → Tally
 file_tally w g s = tally_of w g (contents_of s).items
 
--- the numbers before reading
-unfoldable pub lent_number : ℕ → ℕ → ℕ
-lent_number size w = first_of ((ltb size word_count, words_refused) ∷ (ltb longest_window w, window_refused) ∷ [])
+-- before reading
+unfoldable pub lent_check : ℕ → ℕ → Result Unit Refusal
+lent_check size w = first_of ((ltb size word_count, refusal.Words) ∷ (ltb longest_window w, refusal.Window) ∷ [])
 
--- a file's: a 257th tag among the scans before the end or the damage; then the damage's
-unfoldable pub file_number : ℕ → ℕ → List ℕ → ℕ
-file_number w g s =
-    let damage = (contents_of s).number in
-    first_of ((ltb tag_count (length (file_tally w g s).last), tags_refused) ∷ (ltb 0 damage, damage) ∷ [])
+-- a 257th tag among the scans before the end or the damage
+abbrev pub tags_check : ℕ → ℕ → List ℕ → Result Unit Refusal
+tags_check w g s = first_of ((ltb tag_count (length (file_tally w g s).last), refusal.Tags) ∷ [])
 
-abbrev pub report_number : ℕ → ℕ → ℕ → List ℕ → ℕ
-report_number size w g s = first_refusal (lent_number size w) (file_number w g s)
+-- a file's: its tags', then its damage
+unfoldable pub file_check : ℕ → ℕ → List ℕ → Result Unit Refusal
+file_check w g s = result_and (tags_check w g s) (contents_of s).ending
 
-abbrev pub reported : Counts → Report
-reported c = record { number = 0; counts = c }
+abbrev pub report_check : ℕ → ℕ → ℕ → List ℕ → Result Unit Refusal
+report_check size w g s = result_and (lent_check size w) (file_check w g s)
 
-abbrev pub refused_report : ℕ → Report
-refused_report n = record { number = n; counts = no_counts }
-
--- the report on the file s with w and g seconds; d are the words lent
-unfoldable pub report_of : List ℕ → ℕ → ℕ → List ℕ → Report
-report_of d w g s = answered (report_number (length d) w g s) (reported (file_tally w g s).counts) refused_report
+-- the report on the file s with w and g seconds: its counts; d are the words lent
+unfoldable pub report_of : List ℕ → ℕ → ℕ → List ℕ → Result Counts Refusal
+report_of d w g s = result_and (report_check (length d) w g s) (Ok (file_tally w g s).counts)
 
 -- the words after it: all as they were where it is refused
 unfoldable pub words_after : List ℕ → ℕ → ℕ → List ℕ → List ℕ
-words_after d w g s = answered (report_number (length d) w g s) (words_over d (file_tally w g s).last) (λ n. d)
+words_after d w g s = where_ok (report_check (length d) w g s) (words_over d (file_tally w g s).last) d

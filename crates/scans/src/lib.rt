@@ -29,37 +29,3 @@ pub struct Counts {
     pub gaps: u64,
     pub backward: u64,
 }
-
-// ---- answers: a number first, 0 for accepted
-
-// A scan and how many bytes it took; 0 in every part beside a refusal.
-#[derive(Clone, Copy)]
-pub struct ScanRead {
-    pub number: u32,
-    pub scan: Scan,
-    pub taken: usize,
-}
-
-// How many scans a file holds; 0 beside a refusal.
-#[derive(Clone, Copy)]
-pub struct FileRead {
-    pub number: u32,
-    pub scans: usize,
-}
-
-// The counts of a file; 0 beside a refusal.
-#[derive(Clone, Copy)]
-pub struct Report {
-    pub number: u32,
-    pub counts: Counts,
-}
-
-// ---- what the reader of a part of a scan finds
-
-// A scan's tag or guard and how many bytes it took; 0 in both beside a refusal.
-#[derive(Clone, Copy)]
-pub struct NumberRead {
-    pub number: u32,
-    pub value: u32,
-    pub taken: usize,
-}

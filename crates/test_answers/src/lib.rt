@@ -7,7 +7,7 @@ mod fields;
 mod orders;
 mod read;
 
-pub use built::{build_agrees, check_agrees, utc_agrees};
-pub use fields::{count_at, half_at, number_at, pair_at, signed_word, word_at};
+pub use built::{NO_STAMP, build_agrees, check_agrees, utc_agrees};
+pub use fields::{byte_at, half_at, pair_at, word_at};
 pub use orders::{distance_agrees, order_agrees};
 pub use read::{read_agrees, text_agrees};

@@ -3,31 +3,26 @@ ghost use Rattle.std.specs.Prelude.{◌≡◌};
 ghost use Rattle.test_answers.specs.Agreement.{read_agrees, text_agrees};
 
 use crate::built::is_built;
-use crate::fields::count_at;
-use ion::Built;
+use crate::fields::byte_at;
 
 #[tactic(auto, unfolding(crate::specs::Agreement::read_agrees))]
 pub fn read_agrees(r: &[u8]) -> bool
     ensures { result ≡ read_agrees r.now }
 {
-    if r.len() < 19 {
+    let Some((_, input)) = r.split_at_checked(19) else {
         return false;
-    }
-    let a = value_reader::read_value(&r[19..]);
-    let stamp = a.stamp;
-    let answer = Built {
-        number: a.number,
-        stamp: stamp,
     };
-    is_built(answer, r, 0) & (a.taken == count_at(r, 17))
+    let a = value_reader::read_value(input);
+    let taken = a.map_or(0, |(_, n)| n);
+    is_built(a.map(|(s, _)| s), r, 0) && taken == usize::from(byte_at(r, 17))
 }
 
 #[tactic(auto, unfolding(crate::specs::Agreement::text_agrees))]
 pub fn text_agrees(r: &[u8]) -> bool
     ensures { result ≡ text_agrees r.now }
 {
-    if r.len() < 18 {
-        return false;
+    match r.split_at_checked(18) {
+        Some((_, input)) => is_built(text_reader::read_text(input), r, 0),
+        None => false,
     }
-    is_built(text_reader::read_text(&r[18..]), r, 0)
 }

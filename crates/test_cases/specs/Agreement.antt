@@ -1,8 +1,12 @@
 -- Whether an answer about scans is the recorded one. Assumes nothing.
-use Rattle.std.specs.Prelude.{ℕ, ◌+◌, List, Bool, ◌&&◌, eqb, leb, length, drop, get_or}
+use Rattle.std.specs.Prelude.{ℕ, ◌+◌, List, Bool, ◌&&◌, eqb, leb, length, drop, get_or, Result}
+use Rattle.std.specs.Result.{result_unwrap_or}
 use Rattle.ion.specs.Pair.Pair.{same_pair}
+use Rattle.ion.specs.Calls.Refusal.{number_in}
+use Rattle.ion.specs.declared.refusal.Refusal.{Refusal}
 use Rattle.scans.specs.Scan.{scan_of, read_scan}
 use Rattle.scans.specs.File.{check_file_of}
+use Rattle.scans.specs.Tally.{no_scan}
 use Rattle.scans.specs.declared.Scan.{Scan}
 use Rattle.test_answers.specs.Fields.{half_at, recorded_pair}
 
@@ -13,14 +17,18 @@ recorded_scan r at = scan_of (half_at r at) (half_at r (at + 4)) (recorded_pair 
 abbrev pub same_scan : Scan → Scan → Bool
 same_scan x y = eqb x.tag y.tag && eqb x.guard y.guard && same_pair x.stamp y.stamp
 
+-- a number, a scan, and how many bytes it takes; zeros beside a refusal
+unfoldable pub is_read : Result (Scan × ℕ) Refusal → List ℕ → Bool
+is_read a r =
+    let x = result_unwrap_or a (no_scan, 0) in
+    eqb (number_in a) (get_or r 0 0) && eqb x.1 (get_or r 25 0) && same_scan x.0 (recorded_scan r 1)
+
 -- reading: the input stands after the number, the scan, and how many bytes are taken
 unfoldable pub scan_agrees : List ℕ → Bool
-scan_agrees r =
-    let a = read_scan (drop 27 r) in
-    leb 27 (length r) && (eqb a.number (get_or r 0 0) && same_scan a.scan (recorded_scan r 1) && eqb a.taken (get_or r 25 0))
+scan_agrees r = leb 27 (length r) && is_read (read_scan (drop 27 r)) r
 
 -- checking a file, which stands after the number and how many scans it holds
 unfoldable pub file_agrees : List ℕ → Bool
 file_agrees r =
     let a = check_file_of (drop 3 r) in
-    leb 3 (length r) && (eqb a.number (get_or r 0 0) && eqb a.scans (get_or r 1 0))
+    leb 3 (length r) && eqb (number_in a) (get_or r 0 0) && eqb (result_unwrap_or a 0) (get_or r 1 0)

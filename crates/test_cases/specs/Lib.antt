@@ -1,2 +1,3 @@
--- What the contracts of recorded answers of scans cite beside the definitions of `ion` and `scans`.
+-- What the contracts of recorded answers cite beside the definitions of `ion`, `scans` and `test_answers`.
 pub mod Agreement
+pub mod Kinds

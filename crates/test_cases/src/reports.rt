@@ -1,6 +1,7 @@
 // Records of a report: what is asked and lent, the answer with the words of the first two tags, and then the file.
+use ion::refusal::number_in;
 use scans::Counts;
-use test_answers::{count_at, half_at, number_at, word_at};
+use test_answers::{byte_at, half_at, word_at};
 
 // What every lent word is before the call.
 const BEFORE: u64 = 7;
@@ -10,45 +11,57 @@ const LENT: usize = 1024;
 
 const WORDS: usize = 768;
 
-// What the word at index `i` must be after the call.
+// What a refusal has where there must be counts.
+const NO_COUNTS: Counts = Counts {
+    scans: 0,
+    doubles: 0,
+    kept: 0,
+    gaps: 0,
+    backward: 0,
+};
+
+// What the word at index `i` must be after a report.
 fn word_due(r: &[u8], i: usize) -> u64 {
-    if number_at(r, 10) != 0 {
-        return BEFORE;
-    }
     if i < 6 {
-        return word_at(r, 16 + i * 8);
+        word_at(r, 16 + i * 8)
+    } else if i < WORDS {
+        0
+    } else {
+        BEFORE
     }
-    if i < WORDS { 0 } else { BEFORE }
 }
 
-fn holds(words: &[u64], r: &[u8]) -> bool {
-    for (i, word) in words.iter().enumerate() {
-        if *word != word_due(r, i) {
-            return false;
-        }
+// Whether the lent words are so: as they were beside a refusal.
+fn words_agree(words: &[u64], r: &[u8]) -> bool {
+    if byte_at(r, 10) != 0 {
+        return words.iter().all(|word| *word == BEFORE);
     }
-    true
-}
-
-fn is_count(c: u64, r: &[u8], at: usize) -> bool {
-    c == number_at(r, at) as u64
+    words
+        .iter()
+        .enumerate()
+        .all(|(i, word)| *word == word_due(r, i))
 }
 
 fn counts_agree(c: Counts, r: &[u8]) -> bool {
-    is_count(c.scans, r, 11)
-        & is_count(c.doubles, r, 12)
-        & is_count(c.kept, r, 13)
-        & is_count(c.gaps, r, 14)
-        & is_count(c.backward, r, 15)
+    let counts = [c.scans, c.doubles, c.kept, c.gaps, c.backward];
+    counts
+        .iter()
+        .zip(11..16)
+        .all(|(count, at)| *count == u64::from(byte_at(r, at)))
 }
 
 // Whether the report is the recorded one, and leaves the lent words so.
 pub(crate) fn report_agrees(r: &[u8]) -> bool {
-    let lent = count_at(r, 8) * 256 + count_at(r, 9);
-    if r.len() < 65 || LENT < lent {
+    let lent = usize::from(u16::from_be_bytes([byte_at(r, 8), byte_at(r, 9)]));
+    let Some(file) = r.get(65..) else {
         return false;
-    }
-    let mut words = [BEFORE; LENT];
-    let a = scan_report::report(&r[65..], half_at(r, 0), half_at(r, 4), &mut words[..lent]);
-    (a.number == number_at(r, 10)) & counts_agree(a.counts, r) & holds(&words[..lent], r)
+    };
+    let mut room = [BEFORE; LENT];
+    let Some(words) = room.get_mut(..lent) else {
+        return false;
+    };
+    let a = scan_report::report(file, half_at(r, 0), half_at(r, 4), words);
+    number_in(&a) == u32::from(byte_at(r, 10))
+        && counts_agree(a.unwrap_or(NO_COUNTS), r)
+        && words_agree(words, r)
 }

@@ -1,9 +1,18 @@
 // Records of a scan read and of a file checked: the answer stands before the input, which is the rest of the record.
 ghost use Rattle.std.specs.Prelude.{◌≡◌, ◌<◌};
-ghost use Rattle.test_cases.specs.Agreement.{recorded_scan, same_scan, scan_agrees, file_agrees};
+ghost use Rattle.test_cases.specs.Agreement.{recorded_scan, same_scan, is_read, scan_agrees, file_agrees};
 
+use ion::Refusal;
+use ion::refusal::number_in;
 use scans::Scan;
-use test_answers::{count_at, half_at, number_at, pair_at};
+use test_answers::{NO_STAMP, byte_at, half_at, pair_at};
+
+// What a refusal has where there must be a scan.
+const NO_SCAN: Scan = Scan {
+    tag: 0,
+    guard: 0,
+    stamp: NO_STAMP,
+};
 
 // A scan among a record's bytes: tag, guard and pair.
 #[tactic(auto, unfolding(crate::specs::Agreement::recorded_scan))]
@@ -18,35 +27,42 @@ pub(crate) fn scan_at(r: &[u8], at: usize) -> Scan
     }
 }
 
+// By their numbers: timestamps have no `==` of their own, since that of the port is by instant.
 fn is_same(x: Scan, y: Scan) -> bool
     ensures { result ≡ same_scan x y }
 {
-    let s = x.stamp;
-    let t = y.stamp;
-    (x.tag == y.tag)
-        & (x.guard == y.guard)
-        & ((s.packed_fields == t.packed_fields) & (s.attoseconds == t.attoseconds))
+    let (s, t) = (x.stamp, y.stamp);
+    (x.tag, x.guard, s.packed_fields, s.attoseconds)
+        == (y.tag, y.guard, t.packed_fields, t.attoseconds)
+}
+
+// Whether an answer is the number, the scan and how many bytes it takes.
+#[tactic(auto, unfolding(crate::specs::Agreement::is_read))]
+fn is_read(a: Result<(Scan, usize), Refusal>, r: &[u8]) -> bool
+    ensures { result ≡ is_read a r.now }
+{
+    let (scan, taken) = a.unwrap_or((NO_SCAN, 0));
+    (number_in(&a), taken) == (u32::from(byte_at(r, 0)), usize::from(byte_at(r, 25)))
+        && is_same(scan, scan_at(r, 1))
 }
 
 #[tactic(auto, unfolding(crate::specs::Agreement::scan_agrees))]
 pub(crate) fn scan_agrees(r: &[u8]) -> bool
     ensures { result ≡ scan_agrees r.now }
 {
-    if r.len() < 27 {
-        return false;
+    match r.split_at_checked(27) {
+        Some((_, input)) => is_read(scan_binary::read_scan(input), r),
+        None => false,
     }
-    let a = scan_binary::read_scan(&r[27..]);
-    let scan = a.scan;
-    (a.number == number_at(r, 0)) & is_same(scan, scan_at(r, 1)) & (a.taken == count_at(r, 25))
 }
 
 #[tactic(auto, unfolding(crate::specs::Agreement::file_agrees))]
 pub(crate) fn file_agrees(r: &[u8]) -> bool
     ensures { result ≡ file_agrees r.now }
 {
-    if r.len() < 3 {
+    let Some((_, input)) = r.split_at_checked(3) else {
         return false;
-    }
-    let a = scan_binary::check_file(&r[3..]);
-    (a.number == number_at(r, 0)) & (a.scans == count_at(r, 1))
+    };
+    let a = scan_binary::check_file(input);
+    (number_in(&a), a.unwrap_or(0)) == (u32::from(byte_at(r, 0)), usize::from(byte_at(r, 1)))
 }

@@ -1,107 +1,111 @@
-// Records of what a writer writes: a text, a value, a single number, or a scan. The bytes are the rest of the record.
-ghost use Rattle.std.specs.Prelude.{◌≡◌, ◌≤◌, length};
+// Records of what a writer writes: a text, a value, a single number, or a scan. The bytes are the rest of the record. A
+// line for each writer.
+ghost use Rattle.std.specs.Prelude.{◌≤◌};
 
 use crate::scans_read::scan_at;
 use binary::{var_int, var_uint};
-use ion::{Timestamp, Written, refusal};
-use test_answers::{count_at, number_at, pair_at, signed_word, word_at};
+use ion::Refusal;
+use ion::refusal::number_in;
+use test_answers::{byte_at, pair_at, word_at};
 use text::text_formatter;
 
-// A text or a value.
-fn write_timestamp(buf: &mut [u8], kind: u8, s: Timestamp) -> Written {
-    if kind == 5 {
-        return timestamp_text::format(buf, 0, s);
-    }
-    timestamp_binary::encode_timestamp_value(buf, 0, s)
-}
+// What a buffer is filled with before the call.
+const BEFORE: u8 = 0xAA;
 
-// A VarUInt, a VarInt, or padded digits.
-fn write_number(buf: &mut [u8], kind: u8, x: u64, width: usize) -> Written {
-    if kind == 9 {
-        return var_uint::write_u64(buf, 0, x);
-    }
-    if kind == 10 {
-        return var_int::write_i64(buf, 0, signed_word(x));
-    }
-    text_formatter::write_zero_padded(buf, 0, x, width)
-}
-
-// What the kind of the record writes.
-fn write(buf: &mut [u8], kind: u8, r: &[u8]) -> Written {
-    if kind < 7 {
-        return write_timestamp(buf, kind, pair_at(r, 0));
-    }
-    if kind == 14 {
-        return scan_binary::write_scan(buf, 0, scan_at(r, 0));
-    }
-    write_number(buf, kind, word_at(r, 0), count_at(r, 8))
-}
-
-// A buffer of AA, longer than any record's bytes.
-fn room() -> [u8; 256]
-    ensures { 256 ≡ length result }
-{
-    [0xAA; 256]
-}
-
-// What the buffer must hold at index `i`: the bytes, and past them what it was filled with.
-fn byte_due(bytes: &[u8], i: usize) -> u8 {
-    if i < bytes.len() {
-        return bytes[i];
-    }
-    0xAA
-}
-
+// Whether the buffer begins with the bytes, and past them is as it was.
 fn holds(buf: &[u8], bytes: &[u8]) -> bool {
-    for (i, b) in buf.iter().enumerate() {
-        if *b != byte_due(bytes, i) {
-            return false;
-        }
-    }
-    true
+    buf.strip_prefix(bytes)
+        .is_some_and(|rest| rest.iter().all(|b| *b == BEFORE))
 }
 
 // Whether the writer, lent `size` bytes of a buffer, answers so, writes the bytes, and leaves the rest of the buffer.
-fn answers(size: usize, kind: u8, r: &[u8], number: u32, bytes: &[u8]) -> bool
-    requires { size ≤ 256 }
+fn answers<F: Fn(&mut [u8]) -> Result<usize, Refusal>>(
+    write: &F,
+    size: usize,
+    number: u32,
+    bytes: &[u8],
+) -> bool
+    requires callable { F.IsAlwaysCallable write.now }
+    requires size { size ≤ 256 }
 {
-    let mut buf = room();
-    let w = write(&mut buf[..size], kind, r);
-    (w.number == number) & (w.written == bytes.len()) & holds(&buf, bytes)
+    let mut buf = [BEFORE; 256];
+    let a = write(&mut buf[..size]);
+    (number_in(&a), a.unwrap_or(0)) == (number, bytes.len()) && holds(&buf, bytes)
 }
 
-// Whether the writer answers so in a long buffer, and an accepted one also in a buffer of as many bytes as
-// it writes, but finds a byte less too short.
-fn writes(kind: u8, r: &[u8], number: u32, bytes: &[u8]) -> bool {
-    let in_long = answers(256, kind, r, number, bytes);
-    if number != 0 {
-        return in_long;
+// Whether the writer answers with the number and writes the bytes from index `from` on in a long buffer, and an accepted one also in
+// a buffer of as many bytes as it writes, but finds a byte less too short.
+fn writes<F: Fn(&mut [u8]) -> Result<usize, Refusal>>(
+    write: &F,
+    number: u8,
+    r: &[u8],
+    from: usize,
+) -> bool
+    requires { F.IsAlwaysCallable write.now }
+{
+    let Some(bytes) = r.get(from..) else {
+        return false;
+    };
+    if !answers(write, 256, u32::from(number), bytes) {
+        return false;
     }
     let n = bytes.len();
-    if n == 0 {
-        return false;
-    }
-    if 256 < n {
-        return false;
-    }
-    in_long & answers(n, kind, r, 0, bytes) & answers(n - 1, kind, r, refusal::SHORT_BUFFER, b"")
+    let too_short = Refusal::ShortBuffer.number();
+    number != 0
+        || (1..=256).contains(&n)
+            && answers(write, n, 0, bytes)
+            && answers(write, n - 1, too_short, b"")
 }
 
-// A text, a value and a scan have a number before their bytes; a single number is always accepted.
-fn number_of(kind: u8, r: &[u8]) -> u32 {
-    if kind < 7 {
-        return number_at(r, 16);
-    }
-    if kind == 14 {
-        return number_at(r, 24);
-    }
-    0
+// ---- a text, a value and a scan have a number before their bytes; a single number is always accepted
+
+pub(crate) fn text_bytes_agree(r: &[u8]) -> bool {
+    let s = pair_at(r, 0);
+    writes(
+        &|buf| timestamp_text::format(buf, 0, s),
+        byte_at(r, 16),
+        r,
+        18,
+    )
 }
 
-// Whether the bytes from index `from` on are what the kind of the record writes.
-pub(crate) fn written_agrees(kind: u8, r: &[u8], from: usize) -> bool {
-    if r.len() < from {
-        return false;
-    }
-    writes(kind, r, number_of(kind, r), &r[from..])
+pub(crate) fn value_bytes_agree(r: &[u8]) -> bool {
+    let s = pair_at(r, 0);
+    writes(
+        &|buf| timestamp_binary::encode_timestamp_value(buf, 0, s),
+        byte_at(r, 16),
+        r,
+        18,
+    )
+}
+
+pub(crate) fn scan_bytes_agree(r: &[u8]) -> bool {
+    let scan = scan_at(r, 0);
+    writes(
+        &|buf| scan_binary::write_scan(buf, 0, scan),
+        byte_at(r, 24),
+        r,
+        26,
+    )
+}
+
+pub(crate) fn var_uint_agrees(r: &[u8]) -> bool {
+    let value = word_at(r, 0);
+    writes(&|buf| var_uint::write_u64(buf, 0, value), 0, r, 9)
+}
+
+pub(crate) fn var_int_agrees(r: &[u8]) -> bool {
+    let value = word_at(r, 0).cast_signed();
+    writes(&|buf| var_int::write_i64(buf, 0, value), 0, r, 9)
+}
+
+pub(crate) fn padded_agrees(r: &[u8]) -> bool {
+    let value = word_at(r, 0);
+    let width = usize::from(byte_at(r, 8));
+    writes(
+        &|buf| text_formatter::write_zero_padded(buf, 0, value, width),
+        0,
+        r,
+        10,
+    )
 }

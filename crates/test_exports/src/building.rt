@@ -1,12 +1,13 @@
-// Calls that give a pair: building from a field set in numbers, the packed check and the UTC form.
+// Calls that give a pair: building from a field set in numbers, the packed check and the UTC form. C has a function for each.
+ghost use Rattle.std.specs.Prelude.{◌≡◌, MatchOption};
 ghost use Rattle.ion.specs.Calls.Check.{check_of};
 ghost use Rattle.ion.specs.Calls.Utc.{utc_of};
 ghost use Rattle.ion.specs.Pair.Pair.{packed_pair};
-ghost use Rattle.test_results.specs.Answers.{BuiltIs};
-ghost use Rattle.test_field_sets.specs.FieldSets.{field_set, built_from};
+ghost use Rattle.test_results.specs.Answers.{PairIs};
+ghost use Rattle.test_field_sets.specs.FieldSets.{field_set, built_from, unknown_code};
 
-use test_field_sets::{FieldSet, build_from};
-use test_results::{pair, store_built};
+use test_field_sets::{FieldSet, UNKNOWN_CODE, build_from};
+use test_results::{pair, store_pair};
 
 #[unsafe(no_mangle)]
 pub extern "C" fn timestamp_build(
@@ -30,41 +31,47 @@ pub extern "C" fn timestamp_build(
     word: &mut u64,
     attoseconds: &mut u64,
 ) -> u32
-    ensures { BuiltIs (built_from (field_set stage month0 day0 both year month day hour minute second fraction amount digits
-        coefficient exponent offset minutes)) result word.new attoseconds.new }
+    ensures { MatchOption (built_from (field_set stage month0 day0 both year month day hour minute second fraction amount digits
+        coefficient exponent offset minutes)) ((result ≡ unknown_code) × (word.new ≡ 0) × (attoseconds.new ≡ 0))
+        (λ x. PairIs x result word.new attoseconds.new) }
 {
     let x = FieldSet {
-        stage: stage,
-        month0: month0,
-        day0: day0,
-        both: both,
-        year: year,
-        month: month,
-        day: day,
-        hour: hour,
-        minute: minute,
-        second: second,
-        fraction: fraction,
-        amount: amount,
-        digits: digits,
-        coefficient: coefficient,
-        exponent: exponent,
-        offset: offset,
-        minutes: minutes,
+        stage,
+        month0,
+        day0,
+        both,
+        year,
+        month,
+        day,
+        hour,
+        minute,
+        second,
+        fraction,
+        amount,
+        digits,
+        coefficient,
+        exponent,
+        offset,
+        minutes,
     };
-    store_built(build_from(x), word, attoseconds)
+    let Some(built) = build_from(x) else {
+        *word = 0;
+        *attoseconds = 0;
+        return UNKNOWN_CODE;
+    };
+    store_pair(built, word, attoseconds)
 }
 
 #[unsafe(no_mangle)]
 pub extern "C" fn timestamp_check(w: u64, a: u64, word: &mut u64, attoseconds: &mut u64) -> u32
-    ensures { BuiltIs (check_of (packed_pair w a)) result word.new attoseconds.new }
+    ensures { PairIs (check_of (packed_pair w a)) result word.new attoseconds.new }
 {
-    store_built(timestamp::try_from_bits(w, a), word, attoseconds)
+    store_pair(timestamp::try_from_bits(w, a), word, attoseconds)
 }
 
 #[unsafe(no_mangle)]
 pub extern "C" fn timestamp_to_utc(w: u64, a: u64, word: &mut u64, attoseconds: &mut u64) -> u32
-    ensures { BuiltIs (utc_of (packed_pair w a)) result word.new attoseconds.new }
+    ensures { PairIs (utc_of (packed_pair w a)) result word.new attoseconds.new }
 {
-    store_built(timestamp::to_utc(pair(w, a)), word, attoseconds)
+    store_pair(timestamp::to_utc(pair(w, a)), word, attoseconds)
 }

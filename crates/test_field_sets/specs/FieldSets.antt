@@ -1,14 +1,15 @@
 -- A staged field set in numbers, and the builder's fields that it stands for. Assumes nothing.
-use Rattle.std.specs.Prelude.{ℕ, Bool, cond, ◌&&◌, eqb, leb, ℤ}
+use Rattle.std.specs.Prelude.{ℕ, Bool, cond, ◌&&◌, eqb, leb, ℤ, Option, None, Some, Result}
 use Rattle.ion.specs.Pair.Offset.{offset_minutes}
 use Rattle.ion.specs.Pair.Fraction.{milliseconds, microseconds, nanoseconds, nanoseconds_to, decimal}
-use Rattle.ion.specs.Calls.Build.{refused_build, build_of}
+use Rattle.ion.specs.Calls.Build.{build_of}
 use Rattle.ion.specs.Calls.Stages.{from_zero, with_year, with_month, with_day, with_hour, with_hour_and_minute}
 use Rattle.ion.specs.Calls.Stages.{with_second, with_fraction, with_offset}
-use Rattle.ion.specs.declared.Built.{Built}
 use Rattle.ion.specs.declared.Fraction.{Fraction}
 use Rattle.ion.specs.declared.BuilderFields.{BuilderFields}
 use Rattle.ion.specs.declared.BuilderOffset.TheVariants.{FromLocalFields, FromUtcFields}
+use Rattle.ion.specs.declared.Timestamp.{Timestamp}
+use Rattle.ion.specs.declared.refusal.Refusal.{Refusal}
 use Rattle.test_field_sets.specs.declared.FieldSet.{FieldSet}
 
 -- the number of a field set with a code that stands for nothing: of tests alone, and above all of the table's
@@ -56,22 +57,11 @@ unfoldable pub with_fraction_given : FieldSet → BuilderFields → BuilderField
 with_fraction_given x f = cond (eqb x.fraction 0) f (with_fraction f (fraction_given x))
 
 -- 0 none, 1 the fields are local, 2 they are in UTC
-unfoldable pub with_offset_given : ℕ → ℤ → BuilderFields → BuilderFields
-with_offset_given offset minutes f =
-    cond (eqb offset 0) f
-    (cond (eqb offset 1) (with_offset f (FromLocalFields (offset_minutes minutes)))
-    (with_offset f (FromUtcFields (offset_minutes minutes))))
-
--- the fields to the minute with a second, and perhaps a fraction and an offset
-abbrev pub second_given : FieldSet → BuilderFields → BuilderFields
-second_given x f = with_offset_given x.offset x.minutes (with_fraction_given x (with_second f x.second))
-
--- a date with an hour alone, an hour and a minute, or a second
-unfoldable pub time_given : FieldSet → BuilderFields → BuilderFields
-time_given x f =
-    let minute = with_hour_and_minute f x.hour x.minute in
-    cond (eqb x.stage 3) (with_offset_given x.offset x.minutes (with_hour f x.hour))
-    (cond (eqb x.stage 4) (with_offset_given x.offset x.minutes minute) (second_given x minute))
+unfoldable pub with_offset_given : FieldSet → BuilderFields → BuilderFields
+with_offset_given x f =
+    cond (eqb x.offset 0) f
+    (cond (eqb x.offset 1) (with_offset f (FromLocalFields (offset_minutes x.minutes)))
+    (with_offset f (FromUtcFields (offset_minutes x.minutes))))
 
 -- a year and a month
 abbrev pub month_given : FieldSet → BuilderFields
@@ -81,17 +71,28 @@ month_given x = with_month (with_year x.year) (counted x.month0 x.month)
 abbrev pub day_given : FieldSet → BuilderFields
 day_given x = with_day (month_given x) (counted x.day0 x.day)
 
+-- a date, an hour and a minute
+abbrev pub minute_given : FieldSet → BuilderFields
+minute_given x = with_hour_and_minute (day_given x) x.hour x.minute
+
+-- the same with a second, and perhaps a fraction
+abbrev pub second_given : FieldSet → BuilderFields
+second_given x = with_fraction_given x (with_second (minute_given x) x.second)
+
 -- stage 0 year, 1 month, 2 day, 3 hour alone, 4 hour and minute, 5 second; what is finer is not given, a fraction only with the
 -- second, an offset only from the hour on
 unfoldable pub fields_given : FieldSet → BuilderFields
 fields_given x =
     cond (eqb x.stage 0) (with_year x.year)
-    (cond (eqb x.stage 1) (month_given x) (cond (eqb x.stage 2) (day_given x) (time_given x (day_given x))))
+    (cond (eqb x.stage 1) (month_given x)
+    (cond (eqb x.stage 2) (day_given x)
+    (with_offset_given x
+    (cond (eqb x.stage 3) (with_hour (day_given x) x.hour) (cond (eqb x.stage 4) (minute_given x) (second_given x))))))
 
 -- whether each code stands for something
 abbrev pub is_coded : FieldSet → Bool
 is_coded x = leb x.stage 5 && leb x.fraction 6 && leb x.offset 2
 
--- what the builder answers to a field set
-unfoldable pub built_from : FieldSet → Built
-built_from x = cond (is_coded x) (build_of (fields_given x)) (refused_build unknown_code)
+-- what the builder answers to a field set; none where a code stands for nothing
+unfoldable pub built_from : FieldSet → Option (Result Timestamp Refusal)
+built_from x = cond (is_coded x) (Some (build_of (fields_given x))) None

@@ -6,10 +6,10 @@ mod stages;
 ghost use Rattle.std.specs.Prelude.{◌≡◌};
 ghost use Rattle.test_field_sets.specs.FieldSets.{is_coded, built_from};
 
-use ion::Built;
+use ion::{Refusal, Timestamp};
 use stages::build_staged;
 
-// The number of a code that stands for nothing: of tests alone, and above all of the table's.
+// The number of a code that stands for nothing: of tests alone, and above all of the table's. A number, as C and the files have it.
 pub const UNKNOWN_CODE: u32 = 101;
 
 // A field set in numbers: what each means is said in specs/FieldSets.antt.
@@ -41,13 +41,10 @@ fn is_coded(x: FieldSet) -> bool
     (x.stage <= 5) & (x.fraction <= 6) & (x.offset <= 2)
 }
 
-// The timestamp of a field set, or the number of its refusal.
+// What the builder answers to a field set; none where a code stands for nothing.
 #[tactic(auto, unfolding(crate::specs::FieldSets::built_from))]
-pub fn build_from(x: FieldSet) -> Built
+pub fn build_from(x: FieldSet) -> Option<Result<Timestamp, Refusal>>
     ensures { result ≡ built_from x }
 {
-    if !is_coded(x) {
-        return Built::refused(UNKNOWN_CODE);
-    }
-    build_staged(x)
+    is_coded(x).then(|| build_staged(x))
 }

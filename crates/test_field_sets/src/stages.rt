@@ -1,166 +1,107 @@
-// The builder, stage by stage, by the calls that the codes name.
+// The builder, stage by stage, by the calls that the codes name. The codes stay numbers, as the C interface and the recorded files
+// give them: an enum of each would need a decoding of its own.
 ghost use Rattle.std.specs.Prelude.{◌≡◌};
 ghost use Rattle.ion.specs.Calls.Build.{build_of};
-ghost use Rattle.ion.specs.Calls.Stages.{with_month, with_day, with_hour_and_minute, with_fraction};
-ghost use Rattle.test_field_sets.specs.FieldSets.{counted, fraction_given, with_offset_given, second_given, time_given, fields_given};
+ghost use Rattle.ion.specs.Calls.Stages.{with_fraction};
+ghost use Rattle.test_field_sets.specs.FieldSets.{month_given, day_given, minute_given, second_given};
+ghost use Rattle.test_field_sets.specs.FieldSets.{fraction_given, with_offset_given, fields_given};
 
 use crate::FieldSet;
-use builder::{HasDay, HasFractionalSeconds, HasHour, HasMinute, HasMonth, HasSeconds, HasYear};
-use ion::{Built, Decimal};
+use builder::{
+    HasDay, HasFractionalSeconds, HasMinute, HasMonth, HasSeconds, SupportsOffset, TimestampBuilder,
+};
+use ion::{Decimal, Refusal, Timestamp};
 
-fn set_month(s: HasYear, from0: bool, month: u32) -> HasMonth
-    ensures { result.fields ≡ with_month s.fields (counted from0 month) }
+fn give_month(x: FieldSet) -> TimestampBuilder<HasMonth>
+    ensures { result.fields ≡ month_given x }
 {
-    if from0 {
-        return s.with_month0(month);
+    let year = builder::with_year(x.year);
+    if x.month0 {
+        year.with_month0(x.month)
+    } else {
+        year.with_month(x.month)
     }
-    s.with_month(month)
 }
 
-fn set_day(s: HasMonth, from0: bool, day: u32) -> HasDay
-    ensures { result.fields ≡ with_day s.fields (counted from0 day) }
+fn give_day(x: FieldSet) -> TimestampBuilder<HasDay>
+    ensures { result.fields ≡ day_given x }
 {
-    if from0 {
-        return s.with_day0(day);
+    let month = give_month(x);
+    if x.day0 {
+        month.with_day0(x.day)
+    } else {
+        month.with_day(x.day)
     }
-    s.with_day(day)
 }
 
 // By one call or two, which is the same.
-fn set_minute(s: HasDay, by_one_call: bool, hour: u32, minute: u32) -> HasMinute
-    ensures { result.fields ≡ with_hour_and_minute s.fields hour minute }
+fn give_minute(x: FieldSet) -> TimestampBuilder<HasMinute>
+    ensures { result.fields ≡ minute_given x }
 {
-    if by_one_call {
-        return s.with_hour_and_minute(hour, minute);
+    let day = give_day(x);
+    if x.both {
+        day.with_hour_and_minute(x.hour, x.minute)
+    } else {
+        day.with_hour(x.hour).with_minute(x.minute)
     }
-    s.with_hour(hour).with_minute(minute)
 }
 
-fn set_fraction(s: HasSeconds, x: FieldSet) -> HasFractionalSeconds
+fn give_fraction(
+    s: TimestampBuilder<HasSeconds>,
+    x: FieldSet,
+) -> TimestampBuilder<HasFractionalSeconds>
     ensures { result.fields ≡ with_fraction s.fields (fraction_given x) }
 {
-    let kind = x.fraction;
-    if kind == 1 {
-        return s.with_milliseconds(x.amount);
+    match x.fraction {
+        1 => s.with_milliseconds(x.amount),
+        2 => s.with_microseconds(x.amount),
+        3 => s.with_nanoseconds(x.amount),
+        4 => s.with_nanoseconds_and_precision(x.amount, x.digits),
+        kind => s.with_fractional_seconds(Decimal {
+            negative: kind == 6,
+            coefficient: x.coefficient,
+            exponent: x.exponent,
+        }),
     }
-    if kind == 2 {
-        return s.with_microseconds(x.amount);
-    }
-    if kind == 3 {
-        return s.with_nanoseconds(x.amount);
-    }
-    if kind == 4 {
-        return s.with_nanoseconds_and_precision(x.amount, x.digits);
-    }
-    s.with_fractional_seconds(Decimal {
-        negative: kind == 6,
-        coefficient: x.coefficient,
-        exponent: x.exponent,
-    })
 }
 
-// What is built at each stage that takes an offset: without one, from local fields, or from UTC fields.
+// What is built at a stage that takes an offset: without one, from local fields, or from UTC fields.
 #[tactic(auto, unfolding(crate::specs::FieldSets::with_offset_given))]
-fn build_hour(s: HasHour, offset: u32, minutes: i32) -> Built
-    ensures { result ≡ build_of (with_offset_given offset minutes s.fields) }
+fn build_offset<S: SupportsOffset>(
+    s: TimestampBuilder<S>,
+    x: FieldSet,
+) -> Result<Timestamp, Refusal>
+    ensures { result ≡ build_of (with_offset_given x s.fields) }
 {
-    if offset == 0 {
-        return s.build();
+    match x.offset {
+        0 => s.build(),
+        1 => s.with_offset(x.minutes).build(),
+        _ => s.localize_to_offset(x.minutes).build(),
     }
-    if offset == 1 {
-        return s.with_offset(minutes).build();
-    }
-    s.localize_to_offset(minutes).build()
-}
-
-#[tactic(auto, unfolding(crate::specs::FieldSets::with_offset_given))]
-fn build_minute(s: HasMinute, offset: u32, minutes: i32) -> Built
-    ensures { result ≡ build_of (with_offset_given offset minutes s.fields) }
-{
-    if offset == 0 {
-        return s.build();
-    }
-    if offset == 1 {
-        return s.with_offset(minutes).build();
-    }
-    s.localize_to_offset(minutes).build()
-}
-
-#[tactic(auto, unfolding(crate::specs::FieldSets::with_offset_given))]
-fn build_seconds(s: HasSeconds, offset: u32, minutes: i32) -> Built
-    ensures { result ≡ build_of (with_offset_given offset minutes s.fields) }
-{
-    if offset == 0 {
-        return s.build();
-    }
-    if offset == 1 {
-        return s.with_offset(minutes).build();
-    }
-    s.localize_to_offset(minutes).build()
-}
-
-#[tactic(auto, unfolding(crate::specs::FieldSets::with_offset_given))]
-fn build_fraction(s: HasFractionalSeconds, offset: u32, minutes: i32) -> Built
-    ensures { result ≡ build_of (with_offset_given offset minutes s.fields) }
-{
-    if offset == 0 {
-        return s.build();
-    }
-    if offset == 1 {
-        return s.with_offset(minutes).build();
-    }
-    s.localize_to_offset(minutes).build()
 }
 
 // A second, and perhaps a fraction of it.
 #[tactic(auto, unfolding(crate::specs::FieldSets::with_fraction_given))]
-fn build_second(s: HasMinute, x: FieldSet) -> Built
-    ensures { result ≡ build_of (second_given x s.fields) }
+fn build_second(x: FieldSet) -> Result<Timestamp, Refusal>
+    ensures { result ≡ build_of (with_offset_given x (second_given x)) }
 {
-    let kind = x.fraction;
-    let offset = x.offset;
-    let minutes = x.minutes;
-    let seconds = s.with_second(x.second);
-    if kind == 0 {
-        return build_seconds(seconds, offset, minutes);
+    let second = give_minute(x).with_second(x.second);
+    match x.fraction {
+        0 => build_offset(second, x),
+        _ => build_offset(give_fraction(second, x), x),
     }
-    build_fraction(set_fraction(seconds, x), offset, minutes)
-}
-
-// An hour alone, or what is finer.
-#[tactic(auto, unfolding(crate::specs::FieldSets::time_given))]
-fn build_time(s: HasDay, x: FieldSet) -> Built
-    ensures { result ≡ build_of (time_given x s.fields) }
-{
-    let stage = x.stage;
-    let offset = x.offset;
-    let minutes = x.minutes;
-    if stage == 3 {
-        return build_hour(s.with_hour(x.hour), offset, minutes);
-    }
-    let minute = set_minute(s, x.both, x.hour, x.minute);
-    if stage == 4 {
-        return build_minute(minute, offset, minutes);
-    }
-    build_second(minute, x)
 }
 
 #[tactic(auto, unfolding(crate::specs::FieldSets::fields_given))]
-pub(crate) fn build_staged(x: FieldSet) -> Built
+pub(crate) fn build_staged(x: FieldSet) -> Result<Timestamp, Refusal>
     ensures { result ≡ build_of (fields_given x) }
 {
-    let stage = x.stage;
-    let year = builder::with_year(x.year);
-    if stage == 0 {
-        return year.build();
+    match x.stage {
+        0 => builder::with_year(x.year).build(),
+        1 => give_month(x).build(),
+        2 => give_day(x).build(),
+        3 => build_offset(give_day(x).with_hour(x.hour), x),
+        4 => build_offset(give_minute(x), x),
+        _ => build_second(x),
     }
-    let month = set_month(year, x.month0, x.month);
-    if stage == 1 {
-        return month.build();
-    }
-    let day = set_day(month, x.day0, x.day);
-    if stage == 2 {
-        return day.build();
-    }
-    build_time(day, x)
 }

@@ -1,78 +1,69 @@
--- What a C function hands out of an answer x: it returns the number, n, and stores the rest through references. Assumes nothing.
-use Rattle.std.specs.Prelude.{ℕ, ◌≡◌, Bool, true, false, ℤ}
-use Rattle.ion.specs.Pair.Pair.{word_in}
+-- What a C function hands out of an answer x: it returns the number, n, and stores the rest through references; beside a refusal what it
+-- stores is 0, no and unknown. Assumes nothing.
+use Rattle.std.specs.Prelude.{ℕ, ◌≡◌, Bool, false, ℤ, pos, neg_ℤ, Option, None, Result, is_some}
+use Rattle.std.specs.Result.{result_unwrap_or}
+use Rattle.std.specs.declared.cmp.Ordering.{Ordering}
+use Rattle.std.specs.declared.cmp.Ordering.TheVariants.{Less, Equal, Greater}
+use Rattle.ion.specs.Pair.Pair.{word_in, no_stamp}
 use Rattle.ion.specs.Pair.Offset.{minutes_of}
-use Rattle.ion.specs.declared.offset.Offset.{Offset}
-use Rattle.ion.specs.declared.offset.Offset.TheVariants.{Unknown, Known}
-use Rattle.ion.specs.declared.Built.{Built}
-use Rattle.ion.specs.declared.Field.{Field}
-use Rattle.ion.specs.declared.Attoseconds.{Attoseconds}
-use Rattle.ion.specs.declared.DecimalField.{DecimalField}
-use Rattle.ion.specs.declared.OffsetField.{OffsetField}
-use Rattle.ion.specs.declared.Ordered.{Ordered}
-use Rattle.ion.specs.declared.Compared.{Compared}
+use Rattle.ion.specs.Calls.Refusal.{number_in}
+use Rattle.ion.specs.Calls.Order.{distant}
+use Rattle.ion.specs.declared.Timestamp.{Timestamp}
+use Rattle.ion.specs.declared.Decimal.{Decimal}
 use Rattle.ion.specs.declared.Distance.{Distance}
-use Rattle.ion.specs.declared.Written.{Written}
-use Rattle.ion.specs.declared.Read.{Read}
+use Rattle.ion.specs.declared.offset.OffsetMinutes.{OffsetMinutes}
+use Rattle.ion.specs.declared.refusal.Refusal.{Refusal}
 
--- whether an offset is known
-abbrev pub is_known : Offset → Bool
-is_known Unknown = false
-is_known (Known m) = true
+-- one value v, which is `none` beside a refusal
+pub record AnswerIs {A : Type 0} (x : Result A Refusal) (none : A) (n : ℕ) (v : A) : Type 0 where
+  pub number : n ≡ number_in x
+  pub value : v ≡ result_unwrap_or x none
 
 -- a pair
-pub record BuiltIs (x : Built) (n w a : ℕ) : Type 0 where
-  pub number : n ≡ x.number
-  pub word : w ≡ word_in x.stamp
-  pub attoseconds : a ≡ x.stamp.attoseconds
+pub record PairIs (x : Result Timestamp Refusal) (n w a : ℕ) : Type 0 where
+  pub number : n ≡ number_in x
+  pub word : w ≡ word_in (result_unwrap_or x no_stamp)
+  pub attoseconds : a ≡ (result_unwrap_or x no_stamp).attoseconds
 
--- a field of 32 bits
-pub record FieldIs (x : Field) (n v : ℕ) : Type 0 where
-  pub number : n ≡ x.number
-  pub value : v ≡ x.value
-
--- attoseconds, of 64 bits
-pub record AttosecondsIs (x : Attoseconds) (n v : ℕ) : Type 0 where
-  pub number : n ≡ x.number
-  pub value : v ≡ x.value
+abbrev pub no_decimal : Decimal
+no_decimal = record { negative = false; coefficient = 0; exponent = pos 0 }
 
 -- a fraction is not below zero, so its sign is left out
-pub record DecimalIs (x : DecimalField) (n c : ℕ) (e : ℤ) : Type 0 where
-  pub number : n ≡ x.number
-  pub coefficient : c ≡ x.value.coefficient
-  pub exponent : e ≡ x.value.exponent
+pub record DecimalIs (x : Result Decimal Refusal) (n c : ℕ) (e : ℤ) : Type 0 where
+  pub number : n ≡ number_in x
+  pub coefficient : c ≡ (result_unwrap_or x no_decimal).coefficient
+  pub exponent : e ≡ (result_unwrap_or x no_decimal).exponent
 
 -- an unknown offset is not known, with 0 minutes
-pub record OffsetIs (x : OffsetField) (n : ℕ) (k : Bool) (m : ℤ) : Type 0 where
-  pub number : n ≡ x.number
-  pub known : k ≡ is_known x.value
-  pub minutes : m ≡ minutes_of x.value
+pub record OffsetIs (x : Result (Option OffsetMinutes) Refusal) (n : ℕ) (k : Bool) (m : ℤ) : Type 0 where
+  pub number : n ≡ number_in x
+  pub known : k ≡ is_some (result_unwrap_or x None)
+  pub minutes : m ≡ minutes_of (result_unwrap_or x None)
+
+-- an order as a number
+abbrev pub sign_of : Ordering → ℤ
+sign_of Less = neg_ℤ (pos 1)
+sign_of Equal = pos 0
+sign_of Greater = pos 1
 
 -- an order: -1, 0 or 1
-pub record OrderedIs (x : Ordered) (n : ℕ) (o : ℤ) : Type 0 where
-  pub number : n ≡ x.number
-  pub order : o ≡ x.order
+pub record OrderIs (x : Result Ordering Refusal) (n : ℕ) (o : ℤ) : Type 0 where
+  pub number : n ≡ number_in x
+  pub order : o ≡ sign_of (result_unwrap_or x Equal)
 
--- whether two are equal
-pub record ComparedIs (x : Compared) (n : ℕ) (e : Bool) : Type 0 where
-  pub number : n ≡ x.number
-  pub equal : e ≡ x.equal
+abbrev pub no_distance : Distance
+no_distance = distant Equal 0
 
 -- a sign, and a size in seconds and attoseconds
-pub record DistanceIs (x : Distance) (n : ℕ) (z : ℤ) (s a : ℕ) : Type 0 where
-  pub number : n ≡ x.number
-  pub sign : z ≡ x.sign
-  pub seconds : s ≡ x.seconds
-  pub attoseconds : a ≡ x.attoseconds
-
--- how many bytes were written
-pub record WrittenIs (x : Written) (n k : ℕ) : Type 0 where
-  pub number : n ≡ x.number
-  pub written : k ≡ x.written
+pub record DistanceIs (x : Result Distance Refusal) (n : ℕ) (z : ℤ) (s a : ℕ) : Type 0 where
+  pub number : n ≡ number_in x
+  pub sign : z ≡ sign_of (result_unwrap_or x no_distance).order
+  pub seconds : s ≡ (result_unwrap_or x no_distance).seconds
+  pub attoseconds : a ≡ (result_unwrap_or x no_distance).attoseconds
 
 -- a pair, and how many bytes it took
-pub record ReadIs (x : Read) (n w a k : ℕ) : Type 0 where
-  pub number : n ≡ x.number
-  pub word : w ≡ word_in x.stamp
-  pub attoseconds : a ≡ x.stamp.attoseconds
-  pub taken : k ≡ x.taken
+pub record ReadIs (x : Result (Timestamp × ℕ) Refusal) (n w a k : ℕ) : Type 0 where
+  pub number : n ≡ number_in x
+  pub word : w ≡ word_in (result_unwrap_or x (no_stamp, 0)).0
+  pub attoseconds : a ≡ (result_unwrap_or x (no_stamp, 0)).0.attoseconds
+  pub taken : k ≡ (result_unwrap_or x (no_stamp, 0)).1

@@ -3,13 +3,17 @@
 
 ghost use Rattle.std.specs.Prelude.{◌≡◌};
 ghost use Rattle.ion.specs.Pair.Pair.{packed_pair};
-ghost use Rattle.test_results.specs.Answers.{BuiltIs, FieldIs, AttosecondsIs, DecimalIs, is_known, OffsetIs};
-ghost use Rattle.test_results.specs.Answers.{OrderedIs, ComparedIs, DistanceIs, WrittenIs, ReadIs};
+ghost use Rattle.test_results.specs.Answers.{AnswerIs, PairIs, DecimalIs, OffsetIs, OrderIs, DistanceIs, ReadIs};
 
-use ion::offset::Offset;
-use ion::{
-    Attoseconds, Built, Compared, DecimalField, Distance, Field, OffsetField, Ordered, Read,
-    Timestamp, Written, offset,
+use ion::offset::{self, OffsetMinutes};
+use ion::refusal::number_in;
+use ion::{Decimal, Distance, Refusal, Timestamp};
+use std::cmp::Ordering;
+
+// What a refusal hands out where there must be a pair.
+const NO_STAMP: Timestamp = Timestamp {
+    packed_fields: 0,
+    attoseconds: 0,
 };
 
 pub fn pair(w: u64, a: u64) -> Timestamp
@@ -21,95 +25,82 @@ pub fn pair(w: u64, a: u64) -> Timestamp
     }
 }
 
-pub fn store_built(x: Built, word: &mut u64, attoseconds: &mut u64) -> u32
-    ensures { BuiltIs x result word.new attoseconds.new }
+// What an answer holds, or `none` beside a refusal.
+pub fn store<T: Copy>(x: Result<T, Refusal>, none: T, value: &mut T) -> u32
+    ensures { AnswerIs x none result value.new }
 {
-    let s = x.stamp;
+    *value = x.unwrap_or(none);
+    number_in(&x)
+}
+
+pub fn store_pair(x: Result<Timestamp, Refusal>, word: &mut u64, attoseconds: &mut u64) -> u32
+    ensures { PairIs x result word.new attoseconds.new }
+{
+    let s = x.unwrap_or(NO_STAMP);
     *word = s.packed_fields;
     *attoseconds = s.attoseconds;
-    x.number
+    number_in(&x)
 }
 
-pub fn store_field(x: Field, value: &mut u32) -> u32
-    ensures { FieldIs x result value.new }
-{
-    *value = x.value;
-    x.number
-}
-
-pub fn store_attoseconds(x: Attoseconds, value: &mut u64) -> u32
-    ensures { AttosecondsIs x result value.new }
-{
-    *value = x.value;
-    x.number
-}
-
-pub fn store_decimal(x: DecimalField, coefficient: &mut u64, exponent: &mut i64) -> u32
+// A fraction is not below zero: its sign is left out.
+pub fn store_decimal(x: Result<Decimal, Refusal>, coefficient: &mut u64, exponent: &mut i64) -> u32
     ensures { DecimalIs x result coefficient.new exponent.new }
 {
-    let d = x.value;
-    let power = d.exponent;
-    *coefficient = d.coefficient;
-    *exponent = power;
-    x.number
+    (*coefficient, *exponent) = x.map_or((0, 0), |d| (d.coefficient, d.exponent));
+    number_in(&x)
 }
 
-fn is_known(o: Offset) -> bool
-    ensures { result ≡ is_known o }
-{
-    match o {
-        Offset::Unknown => false,
-        Offset::Known(_) => true,
-    }
-}
-
-pub fn store_offset(x: OffsetField, known: &mut bool, minutes: &mut i32) -> u32
+pub fn store_offset(
+    x: Result<Option<OffsetMinutes>, Refusal>,
+    known: &mut bool,
+    minutes: &mut i32,
+) -> u32
     ensures { OffsetIs x result known.new minutes.new }
 {
-    let o = x.value;
-    *known = is_known(o);
+    let o = x.unwrap_or(None);
+    *known = o.is_some();
     *minutes = offset::minutes_of(o).minutes();
-    x.number
+    number_in(&x)
 }
 
-pub fn store_ordered(x: Ordered, order: &mut i32) -> u32
-    ensures { OrderedIs x result order.new }
+// An order as -1, 0 or 1.
+pub fn store_order(x: Result<Ordering, Refusal>, order: &mut i32) -> u32
+    ensures { OrderIs x result order.new }
 {
-    let way = x.order;
-    *order = way;
-    x.number
+    *order = x.unwrap_or(Ordering::Equal) as i32;
+    number_in(&x)
 }
 
-pub fn store_compared(x: Compared, equal: &mut bool) -> u32
-    ensures { ComparedIs x result equal.new }
-{
-    *equal = x.equal;
-    x.number
-}
-
-pub fn store_distance(x: Distance, sign: &mut i32, seconds: &mut u64, attoseconds: &mut u64) -> u32
+pub fn store_distance(
+    x: Result<Distance, Refusal>,
+    sign: &mut i32,
+    seconds: &mut u64,
+    attoseconds: &mut u64,
+) -> u32
     ensures { DistanceIs x result sign.new seconds.new attoseconds.new }
 {
-    let way = x.sign;
-    *sign = way;
-    *seconds = x.seconds;
-    *attoseconds = x.attoseconds;
-    x.number
+    let d = x.unwrap_or(Distance {
+        order: Ordering::Equal,
+        seconds: 0,
+        attoseconds: 0,
+    });
+    *sign = d.order as i32;
+    *seconds = d.seconds;
+    *attoseconds = d.attoseconds;
+    number_in(&x)
 }
 
-pub fn store_written(x: Written, written: &mut usize) -> u32
-    ensures { WrittenIs x result written.new }
-{
-    *written = x.written;
-    x.number
-}
-
-pub fn store_read(x: Read, word: &mut u64, attoseconds: &mut u64, taken: &mut usize) -> u32
+pub fn store_read(
+    x: Result<(Timestamp, usize), Refusal>,
+    word: &mut u64,
+    attoseconds: &mut u64,
+    taken: &mut usize,
+) -> u32
     ensures { ReadIs x result word.new attoseconds.new taken.new }
 {
-    let s = x.stamp;
+    let (s, n) = x.unwrap_or((NO_STAMP, 0));
     *word = s.packed_fields;
     *attoseconds = s.attoseconds;
-    *taken = x.taken;
-    x.number
+    *taken = n;
+    number_in(&x)
 }

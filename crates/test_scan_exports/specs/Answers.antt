@@ -1,25 +1,24 @@
--- What a C function hands out of an answer x: it returns the number, n, and stores the rest through references. Assumes nothing.
-use Rattle.std.specs.Prelude.{ℕ, ◌≡◌, List, [], ◌∷◌}
+-- What a C function hands out of an answer x: it returns the number, n, and stores the rest through references; beside a refusal what it
+-- stores is 0. Assumes nothing.
+use Rattle.std.specs.Prelude.{ℕ, ◌≡◌, List, [], ◌∷◌, Result}
+use Rattle.std.specs.Result.{result_unwrap_or}
 use Rattle.ion.specs.Pair.Pair.{word_in}
-use Rattle.scans.specs.declared.ScanRead.{ScanRead}
-use Rattle.scans.specs.declared.FileRead.{FileRead}
-use Rattle.scans.specs.declared.Report.{Report}
+use Rattle.ion.specs.Calls.Refusal.{number_in}
+use Rattle.ion.specs.declared.refusal.Refusal.{Refusal}
+use Rattle.scans.specs.Tally.{no_scan, no_counts}
+use Rattle.scans.specs.declared.Scan.{Scan}
+use Rattle.scans.specs.declared.Counts.{Counts}
 
 -- a scan, and how many bytes it took
-pub record ScanIs (x : ScanRead) (n t g w a k : ℕ) : Type 0 where
-  pub number : n ≡ x.number
-  pub tag : t ≡ x.scan.tag
-  pub guard : g ≡ x.scan.guard
-  pub word : w ≡ word_in x.scan.stamp
-  pub attoseconds : a ≡ x.scan.stamp.attoseconds
-  pub taken : k ≡ x.taken
-
--- how many scans a file holds
-pub record FileIs (x : FileRead) (n k : ℕ) : Type 0 where
-  pub number : n ≡ x.number
-  pub scans : k ≡ x.scans
+pub record ScanIs (x : Result (Scan × ℕ) Refusal) (n t g w a k : ℕ) : Type 0 where
+  pub number : n ≡ number_in x
+  pub tag : t ≡ (result_unwrap_or x (no_scan, 0)).0.tag
+  pub guard : g ≡ (result_unwrap_or x (no_scan, 0)).0.guard
+  pub word : w ≡ word_in (result_unwrap_or x (no_scan, 0)).0.stamp
+  pub attoseconds : a ≡ (result_unwrap_or x (no_scan, 0)).0.stamp.attoseconds
+  pub taken : k ≡ (result_unwrap_or x (no_scan, 0)).1
 
 -- a report's counts
-pub record ReportIs (x : Report) (n : ℕ) (l : List ℕ) : Type 0 where
-  pub number : n ≡ x.number
-  pub counts : let c = x.counts in l ≡ c.scans ∷ c.doubles ∷ c.kept ∷ c.gaps ∷ c.backward ∷ []
+pub record CountsAre (x : Result Counts Refusal) (n : ℕ) (l : List ℕ) : Type 0 where
+  pub number : n ≡ number_in x
+  pub counts : let c = result_unwrap_or x no_counts in l ≡ c.scans ∷ c.doubles ∷ c.kept ∷ c.gaps ∷ c.backward ∷ []

@@ -1,10 +1,13 @@
 // Answers handed out: the number is returned, the rest is stored through references.
-ghost use Rattle.test_scan_exports.specs.Answers.{ScanIs, FileIs, ReportIs};
+ghost use Rattle.test_scan_exports.specs.Answers.{ScanIs, CountsAre};
 
-use scans::{FileRead, Report, ScanRead};
+use ion::Refusal;
+use ion::refusal::number_in;
+use scans::{Counts, Scan};
+use test_results::pair;
 
 pub(crate) fn store_scan(
-    x: ScanRead,
+    x: Result<(Scan, usize), Refusal>,
     tag: &mut u32,
     guard: &mut u32,
     word: &mut u64,
@@ -13,27 +16,26 @@ pub(crate) fn store_scan(
 ) -> u32
     ensures { ScanIs x result tag.new guard.new word.new attoseconds.new taken.new }
 {
-    let scan = x.scan;
-    let s = scan.stamp;
+    let no_scan = Scan {
+        tag: 0,
+        guard: 0,
+        stamp: pair(0, 0),
+    };
+    let (scan, n) = x.unwrap_or((no_scan, 0));
     *tag = scan.tag;
     *guard = scan.guard;
-    *word = s.packed_fields;
-    *attoseconds = s.attoseconds;
-    *taken = x.taken;
-    x.number
+    *word = scan.stamp.packed_fields;
+    *attoseconds = scan.stamp.attoseconds;
+    *taken = n;
+    number_in(&x)
 }
 
-pub(crate) fn store_file(x: FileRead, scans: &mut usize) -> u32
-    ensures { FileIs x result scans.new }
+pub(crate) fn store_counts(x: Result<Counts, Refusal>, counts: &mut [u64; 5]) -> u32
+    ensures { CountsAre x result counts.new }
 {
-    *scans = x.scans;
-    x.number
-}
-
-pub(crate) fn store_report(x: Report, counts: &mut [u64; 5]) -> u32
-    ensures { ReportIs x result counts.new }
-{
-    let c = x.counts;
-    *counts = [c.scans, c.doubles, c.kept, c.gaps, c.backward];
-    x.number
+    *counts = match x {
+        Ok(c) => [c.scans, c.doubles, c.kept, c.gaps, c.backward],
+        Err(_) => [0; 5],
+    };
+    number_in(&x)
 }

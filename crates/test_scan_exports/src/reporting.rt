@@ -1,9 +1,9 @@
 // The report over a file.
 ghost use Rattle.std.specs.Prelude.{◌≡◌};
 ghost use Rattle.scans.specs.Report.{report_of, words_after};
-ghost use Rattle.test_scan_exports.specs.Answers.{ReportIs};
+ghost use Rattle.test_scan_exports.specs.Answers.{CountsAre};
 
-use crate::answers::store_report;
+use crate::answers::store_counts;
 
 #[unsafe(no_mangle)]
 pub extern "C" fn file_report(
@@ -13,8 +13,8 @@ pub extern "C" fn file_report(
     words: &mut [u64],
     counts: &mut [u64; 5],
 ) -> u32
-    ensures report { ReportIs (report_of words.old w g input.now) result counts.new }
+    ensures report { CountsAre (report_of words.old w g input.now) result counts.new }
     ensures buffer { words.new ≡ words_after words.old w g input.now }
 {
-    store_report(scan_report::report(input, w, g, words), counts)
+    store_counts(scan_report::report(input, w, g, words), counts)
 }

@@ -2,14 +2,14 @@
 ghost use Rattle.std.specs.Prelude.{◌≡◌};
 ghost use Rattle.ion.specs.Pair.Pair.{packed_pair};
 ghost use Rattle.ion.specs.Calls.Output.{put_after, wrote_after};
-ghost use Rattle.scans.specs.Scan.{scan_of, scan_bytes, scan_number, read_scan};
+ghost use Rattle.scans.specs.Scan.{scan_of, scan_bytes, scan_check, read_scan};
 ghost use Rattle.scans.specs.File.{check_file_of};
-ghost use Rattle.test_results.specs.Answers.{WrittenIs};
-ghost use Rattle.test_scan_exports.specs.Answers.{ScanIs, FileIs};
+ghost use Rattle.test_results.specs.Answers.{AnswerIs};
+ghost use Rattle.test_scan_exports.specs.Answers.{ScanIs};
 
-use crate::answers::{store_file, store_scan};
+use crate::answers::store_scan;
 use scans::Scan;
-use test_results::{pair, store_written};
+use test_results::{pair, store};
 
 #[unsafe(no_mangle)]
 pub extern "C" fn scan_read(
@@ -44,21 +44,21 @@ pub extern "C" fn scan_write(
     written: &mut usize,
 ) -> u32
     ensures written { let x = scan_of tag guard (packed_pair w a) in
-        WrittenIs (wrote_after (scan_number x) buf.old at (scan_bytes x)) result written.new }
+        AnswerIs (wrote_after (scan_check x) buf.old at (scan_bytes x)) 0 result written.new }
     ensures buffer { let x = scan_of tag guard (packed_pair w a) in
-        buf.new ≡ put_after (scan_number x) buf.old at (scan_bytes x) }
+        buf.new ≡ put_after (scan_check x) buf.old at (scan_bytes x) }
 {
     let scan = Scan {
-        tag: tag,
-        guard: guard,
+        tag,
+        guard,
         stamp: pair(w, a),
     };
-    store_written(scan_binary::write_scan(buf, at, scan), written)
+    store(scan_binary::write_scan(buf, at, scan), 0, written)
 }
 
 #[unsafe(no_mangle)]
 pub extern "C" fn file_check(input: &[u8], scans: &mut usize) -> u32
-    ensures { FileIs (check_file_of input.now) result scans.new }
+    ensures { AnswerIs (check_file_of input.now) 0 result scans.new }
 {
-    store_file(scan_binary::check_file(input), scans)
+    store(scan_binary::check_file(input), 0, scans)
 }

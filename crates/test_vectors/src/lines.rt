@@ -1,15 +1,15 @@
 // The lines that the program prints.
+use crate::replay::Tally;
 use std::io::{self, Write};
 
 // How many agree, and what is said of them.
 pub(crate) fn print_counts<W: Write>(
     out: &mut W,
-    agreed: usize,
-    records: usize,
+    tally: Tally,
     mark: &[u8],
     said: &[u8],
 ) -> io::Result<()> {
-    write!(out, "{agreed} of {records}")?;
+    write!(out, "{} of {}", tally.agreed, tally.records)?;
     out.write_all(mark)?;
     out.write_all(said)?;
     out.write_all(b"\n")

@@ -1,52 +1,39 @@
 // The records of a file: a kind, the number of bytes that follow, and these.
-ghost use Rattle.std.specs.Prelude.{◌+◌, ◌<◌, length};
-ghost use Rattle.test_vectors.specs.Records.{Inside};
+ghost use Rattle.std.specs.Prelude.{◌+◌, ◌≤◌, length, IfSome};
 
-use test_answers::{count_at, half_at};
-use test_cases::case_length;
+use test_answers::half_at;
+use test_cases::Kind;
 
-// What stands at a place of the file, with the number of bytes after its kind and length.
+// A source has its name, a case its bytes, and the end the number of cases that the file is to have.
 #[derive(Clone, Copy)]
-pub enum Record {
-    Source(usize),
-    Case(usize),
-    // With the number of cases that the file is to have.
+pub enum Record<'a> {
+    Source(&'a [u8]),
+    Case(Kind, &'a [u8]),
     End(u32),
-    Broken,
 }
 
-// A record of the kind whose bytes are `r`.
-fn record_of(kind: u8, r: &[u8]) -> Record
-    ensures { Inside 0 (2 + length r.now) result }
-{
-    let n = r.len();
-    if kind == 0 {
-        return Record::Source(n);
-    }
-    if kind == 255 {
-        if n == 4 {
-            return Record::End(half_at(r, 0));
-        }
-        return Record::Broken;
-    }
-    if case_length(kind, r) == n {
-        return Record::Case(n);
-    }
-    Record::Broken
+// The case of a kind whose bytes are `bytes`; none where it is broken.
+fn case_of(kind: u8, bytes: &[u8]) -> Option<Record<'_>> {
+    let kind = Kind::try_from(kind).ok()?;
+    (kind.case_length(bytes) == bytes.len()).then_some(Record::Case(kind, bytes))
 }
 
-// The record from index `at` on.
-pub(crate) fn record_at(file: &[u8], at: usize) -> Record
-    requires { at < length file.now }
-    ensures { Inside at (length file.now) result }
+// The record of a kind, a number as the files have it, whose bytes are `bytes`; none where it is broken.
+fn record_of(kind: u8, bytes: &[u8]) -> Option<Record<'_>> {
+    match kind {
+        0 => Some(Record::Source(bytes)),
+        255 if bytes.len() == 4 => Some(Record::End(half_at(bytes, 0))),
+        _ => case_of(kind, bytes),
+    }
+}
+
+// The record with which a file begins, and what comes after it; none where it is broken or the file is empty.
+pub(crate) fn split_record(file: &[u8]) -> Option<(Record<'_>, &[u8])>
+    ensures { IfSome result (λ split. 2 + length split.1.now ≤ length file.now) }
 {
-    if file.len() - at < 2 {
-        return Record::Broken;
-    }
-    let n = count_at(file, at + 1);
-    let start = at + 2;
-    if file.len() - start < n {
-        return Record::Broken;
-    }
-    record_of(file[at], &file[start..start + n])
+    let [kind, n, rest @ ..] = file else {
+        return None;
+    };
+    let (bytes, rest) = rest.split_at_checked(usize::from(*n))?;
+    Some((record_of(*kind, bytes)?, rest))
 }

@@ -3,26 +3,21 @@ ghost use Rattle.std.specs.Prelude.{◌≡◌, ◌+◌, ◌-◌, ◌^◌, ◌≤
 ghost use Rattle.ion.specs.Calls.Output.{put, wrote, Run};
 ghost use Rattle.ion.specs.Numbers.Padded.{digit_count, padded};
 
-use ion::Written;
+use ion::Refusal;
+use output::Encode;
 
 // How many digits a number below 10^5 has.
 fn digit_count_5(value: u64) -> usize
     requires { value < 10 ^ 5 }
     ensures { result ≡ digit_count value }
 {
-    if value < 10 {
-        return 1;
+    match value {
+        0..=9 => 1,
+        10..=99 => 2,
+        100..=999 => 3,
+        1_000..=9_999 => 4,
+        _ => 5,
     }
-    if value < 100 {
-        return 2;
-    }
-    if value < 1_000 {
-        return 3;
-    }
-    if value < 10_000 {
-        return 4;
-    }
-    5
 }
 
 // How many digits `value` has, without a pass over them.
@@ -41,42 +36,54 @@ fn digit_count(value: u64) -> usize
     15 + digit_count_5(value / 1_000_000_000_000_000)
 }
 
-// How many bytes `value` takes, padded to `width`.
-fn padded_count(value: u64, width: usize) -> usize
-    ensures { result ≡ max width (digit_count value) }
-{
-    let n = digit_count(value);
-    if n < width { width } else { n }
+// A number with zeros in front up to `width` digits.
+#[derive(Clone, Copy)]
+pub struct Padded {
+    pub value: u64,
+    pub width: usize,
+}
+
+impl Encode for Padded {
+    ghost bytes = { λ p. padded p.width p.value };
+
+    #[tactic(auto, using(crate::proofs::Digits::length_padded))]
+    fn encoded_size(self) -> usize {
+        digit_count(self.value).max(self.width)
+    }
+
+    #[tactic(auto, using(crate::proofs::Digits::places_padded))]
+    fn encode(self, room: &mut [u8]) {
+        output::put_places::<10, b'0'>(room, self.value);
+    }
 }
 
 // Writes `value`, with zeros in front up to `width` digits, from index `at` on.
-pub fn write_zero_padded(buf: &mut [u8], at: usize, value: u64, width: usize) -> Written
+#[tactic(auto, using(crate::proofs::Digits::sizes))]
+pub fn write_zero_padded(
+    buf: &mut [u8],
+    at: usize,
+    value: u64,
+    width: usize,
+) -> Result<usize, Refusal>
     ensures value { result ≡ wrote buf.old at (padded width value) }
     ensures buffer { buf.new ≡ put buf.old at (padded width value) }
 {
-    let n = padded_count(value, width);
-    let answer = output::room_for(buf.len(), at, n);
-    if answer.number != 0 {
-        return answer;
-    }
-    put_digits(buf, at + n, value, width);
-    answer
+    output::write(buf, at, Padded { value, width })
 }
 
 // ---- inside a writer that has room
 
 // Writes `value`, with zeros in front up to `width` digits, in front of index `end`: the last digit first, each into its place,
-// until the width and the number are both done.
+// until the width and the number are both done. By index, as `output::put_places`.
+#[tactic(auto, using(crate::proofs::Padding::padding_some))]
 pub fn put_digits(buf: &mut [u8], end: usize, value: u64, width: usize)
     requires { (max width (digit_count value) ≤ end) × (end ≤ length buf.old) }
     ensures { Run buf.old (end - max width (digit_count value)) (padded width value) buf.new end }
 {
-    let mut i = end;
     let mut q = value;
-    loop {
-        i -= 1;
-        buf[i] = 48 + (q % 10) as u8;
-        q = q / 10;
+    for i in (0..end).rev() {
+        buf[i] = b'0' + (q % 10) as u8;
+        q /= 10;
         if width <= end - i && q == 0 {
             return;
         }
@@ -84,22 +91,23 @@ pub fn put_digits(buf: &mut [u8], end: usize, value: u64, width: usize)
 }
 
 // Writes it from index `at` on; the index after it.
+#[tactic(auto, using(crate::proofs::Digits::length_padded))]
 pub fn put_padded(buf: &mut [u8], at: usize, value: u64, width: usize) -> usize
     requires { at + max width (digit_count value) ≤ length buf.old }
     ensures { Run buf.old at (padded width value) buf.new result }
 {
-    let n = padded_count(value, width);
-    put_digits(buf, at + n, value, width);
-    at + n
+    output::put(buf, at, Padded { value, width })
 }
 
-// Two digits, as a month, a day, an hour, a minute or a second has; the index after them.
+// Two digits, as a month, a day, an hour, a minute or a second has; the index after them. Both at once: by `put_places`,
+// one after the other, was tried, and a text took a little longer.
 pub fn put_two(buf: &mut [u8], at: usize, value: u32) -> usize
     requires { (at + 2 ≤ length buf.old) × (value < 100) }
     ensures { Run buf.old at (padded 2 value) buf.new result }
 {
-    buf[at + 1] = 48 + (value % 10) as u8;
-    buf[at] = 48 + (value / 10) as u8;
+    let tens = b'0' + (value / 10) as u8;
+    let units = b'0' + (value % 10) as u8;
+    buf[at..at + 2].copy_from_slice(&[tens, units]);
     at + 2
 }
 

@@ -1,21 +1,20 @@
--- A text that is read as a timestamp is one of its texts; the timestamp is an accepted one, and a refusal hands out none.
--- Assumes nothing.
+-- A text that is read as a timestamp is one of its texts, and the timestamp is an accepted one. Assumes nothing.
 use mathlib.Core.Path.{◌≡◌, refl, sym, ap, subst, ◌∙◌}
 use mathlib.Core.Logic.{inl, inr}
 use mathlib.Core.List.{List, [], ◌++◌, append-nil, append_assoc}
 use Prim.Native.Char.{code}
 use Prim.Native.Nat.{ℕ, ◌≤◌}
 use native.Mathlib.Omega.{arith}
-use lib.Dec.{eqb, lit<, lit≤}
+use lib.Dec.{lit<, lit≤}
 use lib.ListN.{length, drop, get_or, length-append, length-drop}
-use borrow.Author.Tests.{eqb-true, eqb-false}
+use Rattle.std.specs.Prelude.{Option, Some, None, Result, Ok, Err}
 use Rattle.ion.specs.Text.Ascii.{ascii}
 use Rattle.ion.specs.Numbers.Padded.{padded}
 use Rattle.ion.specs.Pair.Offset.{WithinDay, raw_of, offset_of}
 use Rattle.ion.specs.Pair.Word.{InRange}
-use Rattle.ion.specs.Calls.Refusal.{form_broken}
-use Rattle.ion.specs.Calls.Build.{to_offset, given_time, local_time, packed_of, refused_build, accepted_build}
-use Rattle.ion.specs.Calls.Build.{build_number, build_pair, build_of}
+use Rattle.std.specs.Result.{result_and}
+use Rattle.ion.specs.Calls.Refusal.{number_of}
+use Rattle.ion.specs.Calls.Build.{to_offset, given_time, local_time, packed_of, build_checks, build_pair, build_of}
 use Rattle.ion.specs.Calls.Accepted.{InBounds, Accepted}
 use Rattle.ion.specs.Calls.Check.{from_local}
 use Rattle.ion.specs.Calls.Stages.{with_year, with_month, with_day, with_hour_and_minute, with_second, with_fraction, with_offset}
@@ -24,12 +23,11 @@ use Rattle.ion.specs.Text.ReadText.{digit_run, read_digits, read_marked, digits_
 use Rattle.ion.specs.declared.Fields.{Fields}
 use Rattle.ion.specs.declared.Fraction.{Fraction}
 use Rattle.ion.specs.declared.BuilderFields.{BuilderFields}
-use Rattle.ion.specs.declared.Built.{Built}
 use Rattle.ion.specs.declared.Timestamp.{Timestamp}
-use Rattle.ion.specs.declared.offset.Offset.{Offset}
-use Rattle.ion.specs.declared.offset.Offset.TheVariants.{Unknown, Known}
-use Rattle.ion.specs.declared.TextRead.{TextRead}
-use Rattle.ion.specs.declared.TextRead.TheVariants.{Form, Broken}
+use Rattle.ion.specs.declared.BuilderOffset.{BuilderOffset}
+use Rattle.ion.specs.declared.offset.OffsetMinutes.{OffsetMinutes}
+use Rattle.ion.specs.declared.refusal.Refusal.{Refusal}
+use Rattle.ion.specs.declared.refusal.Refusal.TheVariants as refusal
 use Rattle.ion.proofs.Offsets.{raw_and_back}
 use Rattle.text.proofs.Digits.{length_padded}
 use Rattle.packed.proofs.Words.{unpack_pack}
@@ -37,7 +35,7 @@ use Rattle.builder.proofs.Routed.{build_most}
 use Rattle.builder.proofs.Times.{time_in_range, build_local}
 use Rattle.timestamp.proofs.Valid.{build_accepted}
 use Rattle.text_reader.specs.Texts.{TextFor, written, without_t, with_z}
-use Rattle.text_reader.proofs.Forms.{on_test, on_value_lem, Holds, on_t, on_date, AtOffset, on_offset, AtDigits, on_second, read_staged}
+use Rattle.text_reader.proofs.Forms.{on_value_lem, Holds, on_t, on_date, AtOffset, on_offset, AtDigits, on_second, read_staged}
 use Rattle.text_reader.proofs.ExactDigits.{digits_exact, next_marked, fraction_exact}
 use Rattle.text_reader.proofs.ReadBack.{text_back}
 use Rattle.text_reader.proofs.ExactOffsets.{OffsetFor, offset_exact}
@@ -51,7 +49,7 @@ packed f = packed_of f (local_time f f.offset) (to_offset f.offset)
 abbrev built_text : BuilderFields → List ℕ
 built_text f = fields_text (packed f) f.attoseconds
 
-build_range : (f : BuilderFields) → build_number f ≡ 0 → InBounds f × InRange (packed f)
+build_range : (f : BuilderFields) → build_checks f ≡ Ok tt → InBounds f × InRange (packed f)
 build_range f e =
     let p = build_local f e in
     let i = p.0 in
@@ -94,27 +92,31 @@ module _ (s : List ℕ) where
 
   -- the offset r after w, in which a fraction may stand
   end_offset_lem : (f : BuilderFields) (w r : List ℕ) → (f.digits ≤ 18 → s ≡ w ++ r)
-      → ((o : Offset) → fields_text (packed_of f (given_time f) o) f.attoseconds ≡ w ++ offset_text (offset_of (raw_of o)))
+      → ((l : Option OffsetMinutes) → fields_text (packed_of f (given_time f) l) f.attoseconds ≡ w ++ offset_text (offset_of (raw_of l)))
       → AtOffset Exact f r
   unfolding offset_text minutes_text
-  end_offset_lem f w r b h o e i t k = go (offset_exact r o e)
+  end_offset_lem f w r b h o e =
+      let x = offset_exact r o e in
+      subst (λ (u : BuilderOffset). Exact (with_offset f u)) (sym x.1) (go x.0 x.2)
     where
-      text : (o : Offset) → WithinDay (to_offset (from_local o)) → built_text (with_offset f (from_local o)) ≡ w ++ offset_text o
-      text Unknown l = h Unknown
-      text (Known m) l = h (Known m) ∙ ap (λ (x : Offset). w ++ offset_text x) (raw_and_back (Known m) l)
+      text : (l : Option OffsetMinutes) → WithinDay (to_offset (from_local l))
+          → built_text (with_offset f (from_local l)) ≡ w ++ offset_text l
+      text None d = h None
+      text (Some m) d = h (Some m) ∙ ap (λ (x : Option OffsetMinutes). w ++ offset_text x) (raw_and_back (Some m) d)
 
-      ends : (u : List ℕ) → r ≡ u → s ≡ w ++ u
-      ends u e = b i.digits ∙ ap (λ (l : List ℕ). w ++ l) e
+      ends : (u : List ℕ) → f.digits ≤ 18 → r ≡ u → s ≡ w ++ u
+      ends u d e = b d ∙ ap (λ (l : List ℕ). w ++ l) e
 
-      go : OffsetFor o r → TextFor t s
-      go (inl e) = written (ends (offset_text o) e ∙ sym (k ∙ text o i.offset))
-      go (inr (e, z)) = with_z w (ends (ascii "Z") e) (sym (k ∙ text o i.offset ∙ ap (λ (x : Offset). w ++ offset_text x) z))
+      go : (l : Option OffsetMinutes) → OffsetFor l r → Exact (with_offset f (from_local l))
+      go l (inl e) i t k = written (ends (offset_text l) i.digits e ∙ sym (k ∙ text l i.offset))
+      go l (inr (e, z)) i t k =
+          with_z w (ends (ascii "Z") i.digits e) (sym (k ∙ text l i.offset ∙ ap (λ (x : Option OffsetMinutes). w ++ offset_text x) z))
 
   -- a point, digits and an offset after w
   end_digits_lem : (f : BuilderFields) (w r : List ℕ) → s ≡ w ++ r
-      → ((x : Fraction) (o : Offset)
-      → fields_text (packed_of (with_fraction f x) (given_time f) o) x.attoseconds
-      ≡ w ++ fraction_text x.digits x.attoseconds ++ offset_text (offset_of (raw_of o)))
+      → ((x : Fraction) (l : Option OffsetMinutes)
+      → fields_text (packed_of (with_fraction f x) (given_time f) l) x.attoseconds
+      ≡ w ++ fraction_text x.digits x.attoseconds ++ offset_text (offset_of (raw_of l)))
       → get_or r 0 0 ≡ code "." → AtDigits Exact f (drop 1 r)
   end_digits_lem f w r b h p k =
       let n = digit_run (drop 1 r) in
@@ -156,49 +158,53 @@ module _ (s : List ℕ) where
 
 -- ---- what is answered
 
--- a number alone, or a form whose fields are built
-on_built : (P : Built → Type 0) (s : List ℕ) → ((n : ℕ) → (n ≡ 0 → ⊥) → P (refused_build n))
-    → ((f : BuilderFields) → read_text s ≡ Form f → build_number f ≡ 0 → P (accepted_build (build_pair f))) → P (read_text_of s)
+-- a refusal, or a form whose fields are built
+on_built : (P : Result Timestamp Refusal → Type 0) (s : List ℕ) → ((r : Refusal) → P (Err r))
+    → ((f : BuilderFields) → read_text s ≡ Some f → build_checks f ≡ Ok tt → P (Ok (build_pair f))) → P (read_text_of s)
 unfolding read_text_of build_of
 on_built P s h k = go (read_text s) k
   where
-    go : (x : TextRead) → ((f : BuilderFields) → x ≡ Form f → build_number f ≡ 0 → P (accepted_build (build_pair f))) → P (built_from x)
-    go Broken k = h form_broken (λ e. omega arith)
-    go (Form f) k =
-        let n = build_number f in
-        on_test P (eqb n 0) (λ e. k f refl (eqb-true n 0 e)) (λ e. h n (eqb-false n 0 e))
+    built : (f : BuilderFields) (x : Result Unit Refusal) → (x ≡ Ok tt → P (Ok (build_pair f))) → P (result_and x (Ok (build_pair f)))
+    built f (Ok u) k = k refl
+    built f (Err r) k = h r
 
--- 18 is answered to texts in none of the forms, and to no others
+    go : (x : Option BuilderFields) → ((f : BuilderFields) → x ≡ Some f → build_checks f ≡ Ok tt → P (Ok (build_pair f))) → P (built_from x)
+    go None k = h refusal.Form
+    go (Some f) k = built f (build_checks f) (k f refl)
+
+-- a text in none of the forms is refused as one, and no other is
 pub broken_exact : (s : List ℕ)
-    → ((read_text_of s).number ≡ form_broken → read_text s ≡ Broken) × (read_text s ≡ Broken → read_text_of s ≡ refused_build form_broken)
+    → (read_text_of s ≡ Err refusal.Form → read_text s ≡ None) × (read_text s ≡ None → read_text_of s ≡ Err refusal.Form)
 unfolding read_text_of build_of
 broken_exact s = (go (read_text s), ap built_from)
   where
-    go : (x : TextRead) → (built_from x).number ≡ form_broken → x ≡ Broken
-    go Broken e = refl
-    go (Form f) e =
-        absurd (on_test (λ (b : Built). b.number ≡ form_broken → ⊥) (eqb (build_number f) 0) (λ z h. omega arith)
-        (λ z h. omega (arith, build_most f)) e)
+    other : (f : BuilderFields) (x : Result Unit Refusal) → build_checks f ≡ x → result_and x (Ok (build_pair f)) ≡ Err refusal.Form → ⊥
+    other f (Ok u) b e = cc
+    other f (Err r) b e =
+        let n = build_most f b in
+        let z : r ≡ refusal.Form = cc in
+        let m : number_of r ≡ 18 = ap number_of z in
+        omega arith
+
+    go : (x : Option BuilderFields) → built_from x ≡ Err refusal.Form → x ≡ None
+    go None e = refl
+    go (Some f) e = absurd (other f (build_checks f) refl e)
 
 -- what is read as a timestamp is one of its texts
-pub text_exact : (t : Timestamp) (s : List ℕ) → read_text_of s ≡ accepted_build t → TextFor t s
+pub text_exact : (t : Timestamp) (s : List ℕ) → read_text_of s ≡ Ok t → TextFor t s
 text_exact t s =
-    on_built (λ (b : Built). b ≡ accepted_build t → TextFor t s) s (λ n h e. absurd (h (ap (λ (b : Built). b.number) e))) (λ f q z e.
+    on_built (λ (b : Result Timestamp Refusal). b ≡ Ok t → TextFor t s) s (λ r e. absurd cc) (λ f q z e.
     let r = build_range f z in
-    subst (λ (u : Timestamp). TextFor u s) (ap (λ (b : Built). b.stamp) e)
+    let u : build_pair f ≡ t = cc in
+    subst (λ (u : Timestamp). TextFor u s) u
     (subst (Holds (Exact s)) q (all_exact s) r.0 (build_pair f) (built_text_lem f r.1)))
 
-pub read_accepted : (s : List ℕ) → (read_text_of s).number ≡ 0 → Accepted (read_text_of s).stamp
-read_accepted s =
-    on_built (λ (b : Built). b.number ≡ 0 → Accepted b.stamp) s (λ n h e. absurd (h e))
-    (λ f q z e. build_accepted f (read_staged s f q) z)
+pub read_accepted : (t : Timestamp) (s : List ℕ) → read_text_of s ≡ Ok t → Accepted t
+read_accepted t s =
+    on_built (λ (b : Result Timestamp Refusal). b ≡ Ok t → Accepted t) s (λ r e. absurd cc) (λ f q z e.
+    let u : build_pair f ≡ t = cc in
+    subst Accepted u (build_accepted f (read_staged s f q) z))
 
-pub refused_alone : (s : List ℕ) → ((read_text_of s).number ≡ 0 → ⊥) → read_text_of s ≡ refused_build (read_text_of s).number
-refused_alone s =
-    on_built (λ (b : Built). (b.number ≡ 0 → ⊥) → b ≡ refused_build b.number) s (λ n h e. refl) (λ f q z h. absurd (h refl))
-
--- what is read, written again, is read again as the same pair
-pub read_again : (s : List ℕ) → (read_text_of s).number ≡ 0 → read_text_of (text_of (read_text_of s).stamp) ≡ read_text_of s
-read_again s e =
-    let t = (read_text_of s).stamp in
-    text_back t (read_accepted s e) ∙ (λ i. record { number = sym e i; stamp = t })
+-- what is read, written again, is read again as the same timestamp
+pub read_again : (t : Timestamp) (s : List ℕ) → read_text_of s ≡ Ok t → read_text_of (text_of t) ≡ Ok t
+read_again t s e = text_back t (read_accepted t s e)

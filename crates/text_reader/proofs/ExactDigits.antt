@@ -10,12 +10,11 @@ use lib.Dec.{eqb, leb, lit<, lit≤}
 use lib.ListN.{length, take, drop, get_or, take-append-drop}
 use lib.Seq.{drop-drop}
 use borrow.Author.Tests.{leb-true, eqb-true, ne_eqb}
+use Rattle.std.specs.Prelude.{Option, Some, None}
 use Rattle.places.proofs.Values.{Bytes, bytes_are, bytes_below}
 use Rattle.ion.specs.Numbers.Padded.{digit, last_digits, padded}
 use Rattle.ion.specs.Text.Format.{marked, fraction_text}
 use Rattle.ion.specs.Text.ReadText.{is_digit, digit_run, digit_of, digits_value, read_digits, read_marked, digits_fraction}
-use Rattle.ion.specs.declared.DigitsRead.{DigitsRead}
-use Rattle.ion.specs.declared.DigitsRead.TheVariants.{Value, Missing}
 use Rattle.fraction.proofs.Scales.{scale_pos}
 use Rattle.text.proofs.Digits.{padded_digits}
 use Rattle.text_reader.proofs.Forms.{on_test}
@@ -47,9 +46,9 @@ run_value k s h =
     (rw r.1 at (bytes_below 10 digit digit_of (take k s) r.0), rw r.1 at (bytes_are 10 digit digit_of (take k s) r.0))
 
 -- what a reading of k digits says of the text
-abbrev BeginsWith : ℕ → List ℕ → DigitsRead → Type 0
-BeginsWith k s (Value n) = s ≡ padded k n ++ drop k s
-BeginsWith k s Missing = Unit
+abbrev BeginsWith : ℕ → List ℕ → Option ℕ → Type 0
+BeginsWith k s (Some n) = s ≡ padded k n ++ drop k s
+BeginsWith k s None = Unit
 
 digits_begin : (k : ℕ) (s : List ℕ) → 1 ≤ k → BeginsWith k s (read_digits k s)
 unfolding read_digits
@@ -58,7 +57,7 @@ digits_begin k s h =
     let v = run_value k s (leb-true k (digit_run s) e) in
     sym (ap (λ (t : List ℕ). t ++ drop k s) (padded_digits k (digits_value k s) h v.0 ∙ v.1) ∙ take-append-drop k s)) (λ e. tt)
 
-pub digits_exact : (k n : ℕ) (s : List ℕ) → 1 ≤ k → read_digits k s ≡ Value n → s ≡ padded k n ++ drop k s
+pub digits_exact : (k n : ℕ) (s : List ℕ) → 1 ≤ k → read_digits k s ≡ Some n → s ≡ padded k n ++ drop k s
 digits_exact k n s h e = subst (BeginsWith k s) e (digits_begin k s h)
 
 -- a byte that is not 0 is the first of the text
@@ -67,20 +66,20 @@ head_is c [] h e = absurd (omega arith)
 head_is c (b ∷ r) h e = ap (λ (x : ℕ). x ∷ r) e
 
 -- it is the mark of two digits that follow it
-pub two_marked : (c n : ℕ) (r : List ℕ) → 0 < c → get_or r 0 0 ≡ c → read_digits 2 (drop 1 r) ≡ Value n → r ≡ marked c n ++ drop 3 r
+pub two_marked : (c n : ℕ) (r : List ℕ) → 0 < c → get_or r 0 0 ≡ c → read_digits 2 (drop 1 r) ≡ Some n → r ≡ marked c n ++ drop 3 r
 unfolding marked
 two_marked c n r h f e =
     head_is c r h f
     ∙ ap (λ (l : List ℕ). c ∷ l) (digits_exact 2 n (drop 1 r) (lit≤ tt) e ∙ ap (λ (l : List ℕ). padded 2 n ++ l) (drop-drop 2 1 r))
 
-marked_exact : (mark n : ℕ) (r : List ℕ) → 0 < mark → read_marked mark r ≡ Value n → r ≡ marked mark n ++ drop 3 r
+marked_exact : (mark n : ℕ) (r : List ℕ) → 0 < mark → read_marked mark r ≡ Some n → r ≡ marked mark n ++ drop 3 r
 unfolding read_marked
 marked_exact mark n r h =
-    on_test (λ (x : DigitsRead). x ≡ Value n → r ≡ marked mark n ++ drop 3 r) (eqb (get_or r 0 0) mark)
+    on_test (λ (x : Option ℕ). x ≡ Some n → r ≡ marked mark n ++ drop 3 r) (eqb (get_or r 0 0) mark)
     (λ t e. two_marked mark n r h (eqb-true (get_or r 0 0) mark t) e) (λ t e. absurd (let z : ◌≡◌ {A = ℕ} 0 1 = cc in omega arith))
 
 -- the same from index at on, after w
-pub next_marked : (s w : List ℕ) (at mark n : ℕ) → 0 < mark → s ≡ w ++ drop at s → read_marked mark (drop at s) ≡ Value n
+pub next_marked : (s w : List ℕ) (at mark n : ℕ) → 0 < mark → s ≡ w ++ drop at s → read_marked mark (drop at s) ≡ Some n
     → s ≡ w ++ marked mark n ++ drop (at + 3) s
 next_marked s w at mark n h b e =
     b

@@ -9,23 +9,17 @@ use native.Mathlib.Omega.{arith}
 use lib.Dec.{eqb}
 use lib.ListN.{drop, get_or}
 use borrow.Author.Tests.{eqb-true, eqb-false}
+use Rattle.std.specs.Prelude.{Option, Some, None}
 use Rattle.ion.specs.Text.Ascii.{ascii}
 use Rattle.ion.specs.Pair.Fraction.{scale}
 use Rattle.ion.specs.Calls.Accepted.{Staged}
-use Rattle.ion.specs.Calls.Check.{from_local}
 use Rattle.ion.specs.Calls.Stages.{with_fraction, with_offset, year, month, day}
 use Rattle.ion.specs.Text.ReadText.{digit_run, digits_value, read_digits, read_marked, on_value}
 use Rattle.ion.specs.Text.ReadText.{read_offset, ended, end_offset, end_t, end_date}
 use Rattle.ion.specs.Text.ReadText.{digits_fraction, end_digits, end_second, read_text}
 use Rattle.ion.specs.Value.ReadValue.{same}
 use Rattle.ion.specs.declared.BuilderFields.{BuilderFields}
-use Rattle.ion.specs.declared.DigitsRead.{DigitsRead}
-use Rattle.ion.specs.declared.DigitsRead.TheVariants.{Value, Missing}
-use Rattle.ion.specs.declared.offset.Offset.{Offset}
-use Rattle.ion.specs.declared.OffsetRead.{OffsetRead}
-use Rattle.ion.specs.declared.OffsetRead.TheVariants.{Found, Wrong}
-use Rattle.ion.specs.declared.TextRead.{TextRead}
-use Rattle.ion.specs.declared.TextRead.TheVariants.{Form, Broken}
+use Rattle.ion.specs.declared.BuilderOffset.{BuilderOffset}
 use Rattle.ion.proofs.Same.{same_is}
 use Rattle.builder.proofs.Stages.{to_minute_lem, to_second_lem, gives_staged}
 
@@ -34,16 +28,16 @@ pub on_test : {A : Type 0} (P : A → Type 0) (t : Bool) {a b : A} → (t ≡ tr
 on_test P true h k = h refl
 on_test P false h k = k refl
 
-pub on_value_lem : {A : Type 0} (P : A → Type 0) (r : DigitsRead) {a : A} {make : ℕ → A} → P a → ((n : ℕ) → r ≡ Value n → P (make n))
+pub on_value_lem : {A : Type 0} (P : A → Type 0) (r : Option ℕ) {a : A} {make : ℕ → A} → P a → ((n : ℕ) → r ≡ Some n → P (make n))
     → P (on_value r a make)
-on_value_lem P (Value n) h k = k n refl
-on_value_lem P Missing h k = h
+on_value_lem P (Some n) h k = k n refl
+on_value_lem P None h k = h
 
 -- a law of the local fields, where there are any
 module _ (P : BuilderFields → Type 0) where
-  abbrev pub Holds : TextRead → Type 0
-  Holds (Form f) = P f
-  Holds Broken = Unit
+  abbrev pub Holds : Option BuilderFields → Type 0
+  Holds (Some f) = P f
+  Holds None = Unit
 
   pub on_t : (f : BuilderFields) (r : List ℕ) → (r ≡ ascii "T" → P f) → Holds (end_t f r)
   unfolding end_t
@@ -55,15 +49,15 @@ module _ (P : BuilderFields → Type 0) where
 
   -- of the fields f at an end in the offset r
   abbrev pub AtOffset : BuilderFields → List ℕ → Type 0
-  AtOffset f r = (o : Offset) → read_offset r ≡ Found o → P (with_offset f (from_local o))
+  AtOffset f r = (o : BuilderOffset) → read_offset r ≡ Some o → P (with_offset f o)
 
   pub on_offset : (f : BuilderFields) (r : List ℕ) → AtOffset f r → Holds (end_offset f r)
   unfolding end_offset
   on_offset f r h = go (read_offset r) h
     where
-      go : (x : OffsetRead) → ((o : Offset) → x ≡ Found o → P (with_offset f (from_local o))) → Holds (ended f x)
-      go (Found o) h = h o refl
-      go Wrong h = tt
+      go : (x : Option BuilderOffset) → ((o : BuilderOffset) → x ≡ Some o → P (with_offset f o)) → Holds (ended f x)
+      go (Some o) h = h o refl
+      go None h = tt
 
   -- in digits, one at least, and an offset
   abbrev pub AtDigits : BuilderFields → List ℕ → Type 0
@@ -101,11 +95,11 @@ all_staged s =
     on_value_lem H (read_marked (code "T") (drop 10 s)) (on_date Staged _ (drop 10 s) (λ e. date) (λ e. date)) (λ h e₄.
     on_value_lem H (read_marked (code ":") (drop 13 s)) tt (λ mi e₅.
     on_value_lem H (read_marked (code ":") (drop 16 s))
-    (on_offset Staged _ (drop 16 s) (λ o e. to_minute_lem (from_local o) y mo d h mi)) (λ x e₆.
-    on_second Staged _ (drop 19 s) (λ o e. to_second_lem (from_local o) y mo d h mi x 0 0 (λ l. refl)) (λ p n o e.
-    to_second_lem (from_local o) y mo d h mi x _ _ (λ l. fraction_multiple (digit_run (drop 1 (drop 19 s))) (drop 1 (drop 19 s))))))))))
+    (on_offset Staged _ (drop 16 s) (λ o e. to_minute_lem o y mo d h mi)) (λ x e₆.
+    on_second Staged _ (drop 19 s) (λ o e. to_second_lem o y mo d h mi x 0 0 (λ l. refl)) (λ p n o e.
+    to_second_lem o y mo d h mi x _ _ (λ l. fraction_multiple (digit_run (drop 1 (drop 19 s))) (drop 1 (drop 19 s))))))))))
 
-pub read_staged : (s : List ℕ) (f : BuilderFields) → read_text s ≡ Form f → Staged f
+pub read_staged : (s : List ℕ) (f : BuilderFields) → read_text s ≡ Some f → Staged f
 read_staged s f e = subst (Holds Staged) e (all_staged s)
 
 -- for the code

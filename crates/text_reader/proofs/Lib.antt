@@ -4,7 +4,6 @@ mod Endings
 pub mod Exact
 mod ExactDigits
 mod ExactOffsets
-mod FieldSteps
 mod Forms
 mod Numbers
 mod Offsets

@@ -8,11 +8,11 @@ use native.Mathlib.Omega.{arith}
 use borrow.Author.Tests.{le-leb, eq-eqb}
 use lib.Dec.{lit<}
 use lib.Seq.{take_at}
+use Rattle.std.specs.Prelude.{Some}
 use Rattle.places.specs.Places.{places_on, places, value_from}
 use Rattle.places.proofs.Laws.{places_append, length_places, value_places}
 use Rattle.ion.specs.Numbers.Padded.{digit, last_digits}
 use Rattle.ion.specs.Text.ReadText.{is_digit, digit_run, digit_of, digits_value, read_digits, read_marked}
-use Rattle.ion.specs.declared.DigitsRead.TheVariants.{Value}
 
 digit_is : (d : ℕ) → d < 10 → is_digit (digit d) ≡ true
 digit_is d h = rw (le-leb 48 (digit d) (omega arith), le-leb (digit d) 57 (omega arith))
@@ -35,10 +35,10 @@ module _ (k n : ℕ) (r : List ℕ) (h : n < 10 ^ k) where
       ap (value_from 10 digit_of 0) (take_at (last_digits k n) r k (length_places 10 digit k n))
       ∙ value_places 10 (lit< tt) digit digit_of (λ d l. omega arith) k n h
 
-  pub read_digits_lem : read_digits k (last_digits k n ++ r) ≡ Value n
+  pub read_digits_lem : read_digits k (last_digits k n ++ r) ≡ Some n
   unfolding read_digits
   read_digits_lem = rw (run_digits k n r, le-leb k (k + digit_run r) (omega arith), value_digits)
 
-pub read_marked_lem : (mark n : ℕ) (r : List ℕ) → n < 100 → read_marked mark (mark ∷ last_digits 2 n ++ r) ≡ Value n
+pub read_marked_lem : (mark n : ℕ) (r : List ℕ) → n < 100 → read_marked mark (mark ∷ last_digits 2 n ++ r) ≡ Some n
 unfolding read_marked
 read_marked_lem mark n r h = rw (eq-eqb mark mark refl) (read_digits_lem 2 n r h)

@@ -10,17 +10,16 @@ use borrow.Author.Tests.{le-ltb}
 use lib.Dec.{eqb, lit≤}
 use lib.IntN.{ℤ, pos, negsuc, nat_abs}
 use lib.ListN.{drop, get_or}
+use Rattle.std.specs.Prelude.{Option, Some, None}
 use Rattle.places.specs.Places.{places_on, places, value_from}
 use Rattle.ion.specs.Text.Ascii.{ascii}
 use Rattle.ion.specs.Numbers.Padded.{last_digits}
 use Rattle.ion.specs.Pair.Offset.{WithinDay}
+use Rattle.ion.specs.Calls.Check.{from_local}
 use Rattle.ion.specs.Text.Format.{marked, clock_text, minutes_text, offset_text}
 use Rattle.ion.specs.Value.ReadValue.{same}
 use Rattle.ion.specs.Text.ReadText.{is_digit, digit_run, digits_value, read_marked, known_offset, signed_clock, read_clock, read_offset}
-use Rattle.ion.specs.declared.offset.Offset.{Offset}
-use Rattle.ion.specs.declared.offset.Offset.TheVariants.{Unknown, Known}
-use Rattle.ion.specs.declared.DigitsRead.TheVariants.{Missing}
-use Rattle.ion.specs.declared.OffsetRead.TheVariants.{Found}
+use Rattle.ion.specs.declared.offset.OffsetMinutes.{OffsetMinutes}
 use Rattle.ion.proofs.Same.{same_not}
 use Rattle.text.proofs.Digits.{padded_digits}
 use Rattle.text_reader.proofs.Numbers.{read_digits_lem, read_marked_lem}
@@ -59,16 +58,16 @@ read_minutes (negsuc n) h =
     rw (clock_some (code "-") m (omega arith) h, read_clock_lem (code "-") m h, le-ltb 59 (m % 60) (omega arith), div-add-mod' m 60)
 
 -- an offset is read back from its text
-pub read_offset_lem : (o : Offset) → WithinDay o → read_offset (offset_text o) ≡ Found o
+pub read_offset_lem : (o : Option OffsetMinutes) → WithinDay o → read_offset (offset_text o) ≡ Some (from_local o)
 unfolding offset_text read_offset same
-read_offset_lem Unknown h = refl
-read_offset_lem (Known m) h = read_minutes m.0 h
+read_offset_lem None h = refl
+read_offset_lem (Some m) h = read_minutes m.0 h
 
 -- ---- how it begins
 
 -- what cannot be taken for a field, a fraction or one more digit
 pub record Begins (r : List ℕ) : Type 0 where
-  pub no_mark : read_marked (code ":") r ≡ Missing
+  pub no_mark : read_marked (code ":") r ≡ None
   pub no_point : eqb (get_or r 0 0) (code ".") ≡ false
   pub no_digit : digit_run r ≡ 0
 
@@ -85,7 +84,7 @@ minutes_begin (pos zero) = begins (code "+") (ascii "00:00") refl refl refl
 minutes_begin (pos (suc n)) = begins (code "+") (clock_text (suc n)) refl refl refl
 minutes_begin (negsuc n) = begins (code "-") (clock_text (suc n)) refl refl refl
 
-pub offset_begins : (o : Offset) → Begins (offset_text o)
+pub offset_begins : (o : Option OffsetMinutes) → Begins (offset_text o)
 unfolding offset_text
-offset_begins Unknown = begins (code "-") (ascii "00:00") refl refl refl
-offset_begins (Known m) = minutes_begin m.0
+offset_begins None = begins (code "-") (ascii "00:00") refl refl refl
+offset_begins (Some m) = minutes_begin m.0

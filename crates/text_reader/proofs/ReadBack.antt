@@ -8,6 +8,7 @@ use borrow.Author.Tests.{ne_eqb, lt-ltb}
 use lib.Dec.{lit≤}
 use lib.ListN.{length, take, drop, get_or, length-append}
 use lib.Seq.{take_at, drop_at}
+use Rattle.std.specs.Prelude.{Some, None, Ok}
 use Rattle.places.specs.Places.{places_on, places}
 use Rattle.places.proofs.Laws.{length_places}
 use Rattle.ion.specs.Text.Ascii.{ascii}
@@ -17,7 +18,6 @@ use Rattle.ion.specs.Pair.Pair.{word_in, packed_pair}
 use Rattle.ion.specs.Pair.Offset.{offset_of}
 use Rattle.ion.specs.Pair.Fraction.{scale}
 use Rattle.ion.specs.Calls.Stages.{with_year, with_month, with_day, with_hour_and_minute, with_second, with_fraction, with_offset}
-use Rattle.ion.specs.Calls.Build.{accepted_build}
 use Rattle.ion.specs.Calls.Check.{from_local, fraction_at, rebuilt}
 use Rattle.ion.specs.Calls.Accepted.{Valid, Accepted}
 use Rattle.ion.specs.Text.Format.{marked, fraction_text, zero_text, offset_text, fields_text, text_of}
@@ -27,10 +27,7 @@ use Rattle.ion.specs.Text.ReadText.{end_offset, end_t, end_date, end_digits, end
 use Rattle.ion.specs.Text.ReadText.{read_text, built_from, read_text_of}
 use Rattle.ion.specs.declared.Fields.{Fields}
 use Rattle.ion.specs.declared.BuilderFields.{BuilderFields}
-use Rattle.ion.specs.declared.DigitsRead.TheVariants.{Value, Missing}
-use Rattle.ion.specs.declared.TextRead.TheVariants.{Form}
 use Rattle.ion.specs.declared.Timestamp.{Timestamp}
-use Rattle.ion.specs.declared.Built.{Built}
 use Rattle.text.proofs.Digits.{padded_digits}
 use Rattle.fraction.proofs.Scales.{units_lt}
 use Rattle.timestamp.proofs.Valid.{valid_in_range, valid_offset, accepted_word}
@@ -44,7 +41,7 @@ use Rattle.text_reader.proofs.Offsets.{read_offset_lem, Begins, z_begins, offset
 -- a mark and a number of two digits, as they are written and read
 record TwoDigits (c n : ℕ) : Type 0 where
   text : marked c n ≡ c ∷ last_digits 2 n
-  read : (t : List ℕ) → read_marked c (c ∷ last_digits 2 n ++ t) ≡ Value n
+  read : (t : List ℕ) → read_marked c (c ∷ last_digits 2 n ++ t) ≡ Some n
 
 two_digits : (c n : ℕ) → n < 100 → TwoDigits c n
 unfolding marked
@@ -69,7 +66,7 @@ same_end u w x y n e =
 
 -- how a text ends: in a T, or in an offset, in place of which any other is read
 data Ends (f : Fields) (a : ℕ) : Type 0 where
-  in_t : (u : List ℕ) → fields_text f a ≡ u ++ ascii "T" → read_text (u ++ ascii "T") ≡ Form (rebuilt f a) → Ends f a
+  in_t : (u : List ℕ) → fields_text f a ≡ u ++ ascii "T" → read_text (u ++ ascii "T") ≡ Some (rebuilt f a) → Ends f a
   in_offset : (u : List ℕ) (g : BuilderFields) → fields_text f a ≡ u ++ offset_text (offset_of f.offset)
       → ((r : List ℕ) → Begins r → read_text (u ++ r) ≡ end_offset g r)
       → with_offset g (from_local (offset_of f.offset)) ≡ rebuilt f a → Ends f a
@@ -78,7 +75,7 @@ module _ (f : Fields) (a : ℕ) (v : Valid f a) where
   year : padded 4 f.year ≡ last_digits 4 f.year
   year = padded_digits 4 f.year (lit≤ tt) (omega arith)
 
-  read_year : (t : List ℕ) → read_digits 4 (last_digits 4 f.year ++ t) ≡ Value f.year
+  read_year : (t : List ℕ) → read_digits 4 (last_digits 4 f.year ++ t) ≡ Some f.year
   read_year t = read_digits_lem 4 f.year t (omega arith)
 
   month : TwoDigits (code "-") f.month
@@ -111,19 +108,19 @@ module _ (f : Fields) (a : ℕ) (v : Valid f a) where
   -- ---- what is read of the text up to a field, and then t
 
   module _ (t : List ℕ) where
-    year_then : read_marked (code "-") t ≡ Missing → read_text (padded 4 f.year ++ t) ≡ end_t (with_year f.year) t
+    year_then : read_marked (code "-") t ≡ None → read_text (padded 4 f.year ++ t) ≡ end_t (with_year f.year) t
     unfolding places places_on read_text
     year_then n = rw year (rw (read_year _, n))
 
-    month_then : read_marked (code "-") t ≡ Missing → read_text (to_month f ++ t) ≡ end_t at_month t
+    month_then : read_marked (code "-") t ≡ None → read_text (to_month f ++ t) ≡ end_t at_month t
     unfolding places places_on read_text
     month_then n = rw (year, month.text) (rw (read_year _, month.read _, n))
 
-    day_then : read_marked (code "T") t ≡ Missing → read_text (to_day f ++ t) ≡ end_date at_day t
+    day_then : read_marked (code "T") t ≡ None → read_text (to_day f ++ t) ≡ end_date at_day t
     unfolding places places_on read_text
     day_then n = rw (year, month.text, day.text) (rw (read_year _, month.read _, day.read _, n))
 
-    minute_then : read_marked (code ":") t ≡ Missing → read_text (to_minute f ++ t) ≡ end_offset at_minute t
+    minute_then : read_marked (code ":") t ≡ None → read_text (to_minute f ++ t) ≡ end_offset at_minute t
     unfolding places places_on read_text
     minute_then n =
         rw (year, month.text, day.text, hour.text, minute.text)
@@ -174,18 +171,18 @@ module _ (f : Fields) (a : ℕ) (v : Valid f a) where
       go (suc (suc (suc (suc (suc p))))) l e = absurd (omega arith)
 
   -- what the writer writes
-  pub read_text_lem : read_text (fields_text f a) ≡ Form (rebuilt f a)
+  pub read_text_lem : read_text (fields_text f a) ≡ Some (rebuilt f a)
   unfolding end_offset
   read_text_lem = go ends
     where
-      go : Ends f a → read_text (fields_text f a) ≡ Form (rebuilt f a)
+      go : Ends f a → read_text (fields_text f a) ≡ Some (rebuilt f a)
       go (in_t u e r) = ap read_text e ∙ r
       go (in_offset u g e r w) =
           let o = offset_of f.offset in
-          ap read_text e ∙ r (offset_text o) (offset_begins o) ∙ ap (ended g) (read_offset_lem o (valid_offset v)) ∙ ap Form w
+          ap read_text e ∙ r (offset_text o) (offset_begins o) ∙ ap (ended g) (read_offset_lem o (valid_offset v)) ∙ ap Some w
 
   -- a full date without its T
-  read_date : (s : List ℕ) → length s ≡ 10 → s ++ ascii "T" ≡ fields_text f a → read_text s ≡ Form (rebuilt f a)
+  read_date : (s : List ℕ) → length s ≡ 10 → s ++ ascii "T" ≡ fields_text f a → read_text s ≡ Some (rebuilt f a)
   unfolding same end_date read_marked
   read_date s n e =
       let k : text_length f.precision f.digits ≡ 11 = omega (arith, length-append s (ascii "T"), ap length e, length_text f a v) in
@@ -195,11 +192,11 @@ module _ (f : Fields) (a : ℕ) (v : Valid f a) where
       ∙ rw p
 
   -- Z in place of +00:00
-  read_utc : (u : List ℕ) → u ++ zero_text ≡ fields_text f a → read_text (u ++ ascii "Z") ≡ Form (rebuilt f a)
+  read_utc : (u : List ℕ) → u ++ zero_text ≡ fields_text f a → read_text (u ++ ascii "Z") ≡ Some (rebuilt f a)
   unfolding end_offset read_offset same
   read_utc u e = go ends
     where
-      go : Ends f a → read_text (u ++ ascii "Z") ≡ Form (rebuilt f a)
+      go : Ends f a → read_text (u ++ ascii "Z") ≡ Some (rebuilt f a)
       go (in_t w x r) =
           let k = same_end (u ++ ascii "+00:0") w (ascii "0") (ascii "T") refl (append_assoc u (ascii "+00:0") (ascii "0") ∙ e ∙ x) in
           absurd (omega (arith, ap (λ (s : List ℕ). get_or s 0 0) k.1))
@@ -216,19 +213,19 @@ module _ (f : Fields) (a : ℕ) (v : Valid f a) where
 -- ---- the packed pair
 
 module _ (t : Timestamp) (p : Accepted t) where
-  read_as : (s : List ℕ) → read_text s ≡ Form (rebuilt (fields_of (word_in t)) t.attoseconds) → read_text_of s ≡ accepted_build t
+  read_as : (s : List ℕ) → read_text s ≡ Some (rebuilt (fields_of (word_in t)) t.attoseconds) → read_text_of s ≡ Ok t
   unfolding read_text_of
   read_as s e =
       ap built_from e
       ∙ rebuilt_builds p.fields
-      ∙ ap (λ (n : ℕ). accepted_build (packed_pair n t.attoseconds)) (accepted_word p)
+      ∙ ap (λ (n : ℕ). Ok (packed_pair n t.attoseconds)) (accepted_word p)
 
-  pub text_back : read_text_of (text_of t) ≡ accepted_build t
+  pub text_back : read_text_of (text_of t) ≡ Ok t
   unfolding text_of
   text_back = read_as (text_of t) (read_text_lem _ _ p.fields)
 
 -- each of its texts
-pub texts_read : (t : Timestamp) (s : List ℕ) → Accepted t → TextFor t s → read_text_of s ≡ accepted_build t
+pub texts_read : (t : Timestamp) (s : List ℕ) → Accepted t → TextFor t s → read_text_of s ≡ Ok t
 unfolding text_of
 texts_read t s p (written e) = ap read_text_of e ∙ text_back t p
 texts_read t s p (without_t n e) = read_as t p s (read_date _ _ p.fields s n e)
@@ -236,7 +233,7 @@ texts_read t s p (with_z r e x) = ap read_text_of e ∙ read_as t p (r ++ ascii 
 
 -- a text is that of one timestamp
 pub texts_inj : (s t : Timestamp) (x : List ℕ) → Accepted s → Accepted t → TextFor s x → TextFor t x → s ≡ t
-texts_inj s t x p q h k = ap (λ (b : Built). b.stamp) (sym (texts_read s x p h) ∙ texts_read t x q k)
+texts_inj s t x p q h k = let e : Ok s ≡ Ok t = sym (texts_read s x p h) ∙ texts_read t x q k in cc
 
 pub text_inj : (s t : Timestamp) → Accepted s → Accepted t → text_of s ≡ text_of t → s ≡ t
 text_inj s t p q e = texts_inj s t (text_of s) p q (written refl) (written e)

@@ -10,7 +10,7 @@ use lib.ListN.{length, drop, get_or, length-drop}
 use lib.Seq.{get_or-drop, drop-drop, drop-cons, take-append_seam}
 use Rattle.places.specs.Places.{value_from}
 use Rattle.ion.specs.Text.ReadText.{is_digit, digit_run, digit_of, digits_value, read_digits, read_marked, on_value}
-use Rattle.ion.specs.declared.DigitsRead.TheVariants.{Value, Missing}
+use Rattle.std.specs.Prelude.{Option, Some, None}
 
 pub digit_within : (b : ℕ) → is_digit b ≡ true → (48 ≤ b) × (b ≤ 57)
 digit_within b e =
@@ -32,7 +32,7 @@ run_all (b ∷ w) t = go (is_digit b) (run_all w t)
     go false e = leb-suc-zero (length w)
 
 -- as many digits as w has bytes, whatever follows
-digits_at : (w t : List ℕ) → read_digits (length w) (w ++ t) ≡ cond (all_digits w) (Value (value_from 10 digit_of 0 w)) Missing
+digits_at : (w t : List ℕ) → read_digits (length w) (w ++ t) ≡ cond (all_digits w) (Some (value_from 10 digit_of 0 w)) None
 unfolding read_digits digits_value
 digits_at w t = rw (run_all w t, take-append_seam w t)
 
@@ -45,31 +45,31 @@ run_le (b ∷ s) = go (is_digit b) (run_le s)
     go true h = omega arith
     go false h = omega arith
 
-cond_same : (t : Bool) → cond t Missing Missing ≡ Missing
+cond_same : (t : Bool) → cond {A = Option ℕ} t None None ≡ None
 cond_same true = refl
 cond_same false = refl
 
-pub digits_short : (k : ℕ) (s : List ℕ) → length s < k → read_digits k s ≡ Missing
+pub digits_short : (k : ℕ) (s : List ℕ) → length s < k → read_digits k s ≡ None
 unfolding read_digits
 digits_short k s h = rw (lt-leb k (digit_run s) (omega (arith, run_le s)))
 
 -- ---- two digits
 
-two_alike : (a b : ℕ) (t u : List ℕ) → read_digits 2 (a ∷ b ∷ t) ≡ read_digits 2 (a ∷ b ∷ u)
+pub two_alike : (a b : ℕ) (t u : List ℕ) → read_digits 2 (a ∷ b ∷ t) ≡ read_digits 2 (a ∷ b ∷ u)
 two_alike a b t u = digits_at (a ∷ b ∷ []) t ∙ sym (digits_at (a ∷ b ∷ []) u)
 
-pub two_yes : (a b : ℕ) (t : List ℕ) → (is_digit a && is_digit b) ≡ true → read_digits 2 (a ∷ b ∷ t) ≡ Value ((a - 48) * 10 + (b - 48))
+pub two_yes : (a b : ℕ) (t : List ℕ) → (is_digit a && is_digit b) ≡ true → read_digits 2 (a ∷ b ∷ t) ≡ Some ((a - 48) * 10 + (b - 48))
 unfolding value_from
-two_yes a b t e = digits_at (a ∷ b ∷ []) t ∙ rw (and-true (is_digit b), e) (ap Value (omega arith))
+two_yes a b t e = digits_at (a ∷ b ∷ []) t ∙ rw (and-true (is_digit b), e) (ap Some (omega arith))
 
-pub two_no : (a b : ℕ) (t : List ℕ) → (is_digit a && is_digit b) ≡ false → read_digits 2 (a ∷ b ∷ t) ≡ Missing
+pub two_no : (a b : ℕ) (t : List ℕ) → (is_digit a && is_digit b) ≡ false → read_digits 2 (a ∷ b ∷ t) ≡ None
 two_no a b t e = digits_at (a ∷ b ∷ []) t ∙ rw (and-true (is_digit b), e)
 
 -- four digits are two and two
 
 four_of : (a b c d : ℕ) (t : List ℕ)
     → read_digits 4 (a ∷ b ∷ c ∷ d ∷ t)
-    ≡ on_value (read_digits 2 (a ∷ b ∷ [])) Missing (λ u. on_value (read_digits 2 (c ∷ d ∷ [])) Missing (λ v. Value (u * 100 + v)))
+    ≡ on_value (read_digits 2 (a ∷ b ∷ [])) None (λ u. on_value (read_digits 2 (c ∷ d ∷ [])) None (λ v. Some (u * 100 + v)))
 unfolding value_from
 four_of a b c d t =
     let value = value_from 10 digit_of 0 in
@@ -79,10 +79,10 @@ four_of a b c d t =
     ∙ sym (rw (digits_at (a ∷ b ∷ []) [], digits_at (c ∷ d ∷ []) []))
   where
     go : (p q r s : Bool) (n u v : ℕ) → n ≡ u * 100 + v
-        → cond (p && (q && (r && (s && true)))) (Value n) Missing
-        ≡ on_value (cond (p && (q && true)) (Value u) Missing) Missing
-        (λ u. on_value (cond (r && (s && true)) (Value v) Missing) Missing (λ v. Value (u * 100 + v)))
-    go true true true true n u v e = ap Value e
+        → cond (p && (q && (r && (s && true)))) (Some n) None
+        ≡ on_value (cond (p && (q && true)) (Some u) None) None
+        (λ u. on_value (cond (r && (s && true)) (Some v) None) None (λ v. Some (u * 100 + v)))
+    go true true true true n u v e = ap Some e
     go true true true false n u v e = refl
     go true true false s n u v e = refl
     go true false r s n u v e = refl
@@ -91,8 +91,8 @@ four_of a b c d t =
 -- and so at the beginning of a text
 pub year_of_lem : (s : List ℕ) → 4 ≤ length s
     → read_digits 4 s
-    ≡ on_value (read_digits 2 (get_or s 0 0 ∷ get_or s 1 0 ∷ [])) Missing
-    (λ u. on_value (read_digits 2 (get_or s 2 0 ∷ get_or s 3 0 ∷ [])) Missing (λ v. Value (u * 100 + v)))
+    ≡ on_value (read_digits 2 (get_or s 0 0 ∷ get_or s 1 0 ∷ [])) None
+    (λ u. on_value (read_digits 2 (get_or s 2 0 ∷ get_or s 3 0 ∷ [])) None (λ v. Some (u * 100 + v)))
 year_of_lem [] h = absurd (omega arith)
 year_of_lem (a ∷ []) h = absurd (omega arith)
 year_of_lem (a ∷ b ∷ []) h = absurd (omega arith)
@@ -105,13 +105,13 @@ module _ (s : List ℕ) (at mark : ℕ) where
   at_mark : get_or (drop at s) 0 0 ≡ get_or s at 0
   at_mark = get_or-drop at s 0 0 ∙ ap (λ (i : ℕ). get_or s i 0) (omega arith)
 
-  pub marked_short : length s < at + 3 → read_marked mark (drop at s) ≡ Missing
+  pub marked_short : length s < at + 3 → read_marked mark (drop at s) ≡ None
   unfolding read_marked
   marked_short h =
       rw (digits_short 2 (drop 1 (drop at s)) (omega (arith, length-drop at s, length-drop 1 (drop at s))))
       (cond_same (eqb (get_or (drop at s) 0 0) mark))
 
-  pub marked_other : (get_or s at 0 ≡ mark → ⊥) → read_marked mark (drop at s) ≡ Missing
+  pub marked_other : (get_or s at 0 ≡ mark → ⊥) → read_marked mark (drop at s) ≡ None
   unfolding read_marked
   marked_other h = rw (at_mark, ne_eqb (get_or s at 0) mark h)
 

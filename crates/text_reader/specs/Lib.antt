@@ -1,3 +1,2 @@
--- What the contracts of the reader's parts cite beside the definitions of `ion`.
-pub mod Parts
+-- What the laws of the reader speak of beside the definitions of `ion`.
 pub mod Texts

@@ -1,58 +1,49 @@
 // The digits of a text: two after a mark, four of a year, and a run of them.
-ghost use Rattle.std.specs.Prelude.{◌≡◌, [], ◌∷◌, true, cond, ◌+◌, ◌*◌, ◌^◌, ◌≤◌, ◌<◌, ltb, length, drop};
-ghost use Rattle.ion.specs.Text.ReadText.{is_digit, digit_of, read_digits, read_marked};
-ghost use Rattle.text_reader.specs.Parts.{Below, RunIs};
-
-use ion::DigitsRead;
+ghost use Rattle.std.specs.Prelude.{◌≡◌, [], ◌∷◌, true, cond, IfSome, min, ◌+◌, ◌*◌, ◌^◌, ◌≤◌, ◌<◌, ltb, length, drop};
+ghost use Rattle.ion.specs.Text.ReadText.{is_digit, digit_run, digit_of, digits_value, read_digits, read_marked};
 
 fn is_digit(b: u8) -> bool
     ensures { result ≡ is_digit b }
 {
-    (b'0' <= b) & (b <= b'9')
+    b.is_ascii_digit()
 }
 
 #[tactic(auto, using(crate::proofs::Runs::digits))]
-fn two_digits(tens: u8, units: u8) -> DigitsRead
+pub(crate) fn two_digits(tens: u8, units: u8) -> Option<u32>
     ensures value { result ≡ read_digits 2 (tens ∷ units ∷ []) }
-    ensures bound { Below 100 result }
+    ensures bound { IfSome result (λ n. n < 100) }
 {
-    if !(is_digit(tens) & is_digit(units)) {
-        return DigitsRead::Missing;
+    if is_digit(tens) && is_digit(units) {
+        Some((tens - b'0') as u32 * 10 + (units - b'0') as u32)
+    } else {
+        None
     }
-    DigitsRead::Value((tens - b'0') as u32 * 10 + (units - b'0') as u32)
 }
 
 // A mark at index `at` and two digits.
 #[tactic(auto, using(crate::proofs::Runs::marked_digits))]
-pub(crate) fn read_marked(s: &[u8], at: usize, mark: u8) -> DigitsRead
+pub(crate) fn read_marked(s: &[u8], at: usize, mark: u8) -> Option<u32>
     requires { at < 2 ^ 63 }
     ensures value { result ≡ read_marked mark (drop at s.now) }
-    ensures bound { Below 100 result }
+    ensures inside { IfSome result (λ _. at + 3 ≤ length s.now) }
 {
-    if s.len() < at + 3 {
-        return DigitsRead::Missing;
+    if at + 3 <= s.len() && s[at] == mark {
+        two_digits(s[at + 1], s[at + 2])
+    } else {
+        None
     }
-    if s[at] != mark {
-        return DigitsRead::Missing;
-    }
-    two_digits(s[at + 1], s[at + 2])
 }
 
 // Four digits at the beginning.
 #[tactic(auto, using(crate::proofs::Runs::years))]
-pub(crate) fn read_year(s: &[u8]) -> DigitsRead
-    ensures { result ≡ read_digits 4 s.now }
+pub(crate) fn read_year(s: &[u8]) -> Option<u32>
+    ensures value { result ≡ read_digits 4 s.now }
+    ensures inside { IfSome result (λ _. 4 ≤ length s.now) }
 {
-    if s.len() < 4 {
-        return DigitsRead::Missing;
-    }
-    let DigitsRead::Value(century) = two_digits(s[0], s[1]) else {
-        return DigitsRead::Missing;
+    let [a, b, c, d, ..] = s else {
+        return None;
     };
-    let DigitsRead::Value(year) = two_digits(s[2], s[3]) else {
-        return DigitsRead::Missing;
-    };
-    DigitsRead::Value(century * 100 + year)
+    Some(two_digits(*a, *b)? * 100 + two_digits(*c, *d)?)
 }
 
 // How many digits there are, and the number that the first 18 of them make.
@@ -68,32 +59,27 @@ fn one_more(value: u64, n: usize, b: u8) -> u64
     ensures { result ≡ cond (ltb n 18) (value * 10 + digit_of b) value }
 {
     if n < 18 {
-        return value * 10 + (b - b'0') as u64;
+        value * 10 + (b - b'0') as u64
+    } else {
+        value
     }
-    value
 }
 
-// The digits from index `at` on.
+// The digits with which a text begins.
 #[tactic(auto, using(crate::proofs::Reading::reading))]
-pub(crate) fn read_run(s: &[u8], at: usize) -> DigitRun
-    requires { at ≤ length s.now }
-    ensures { RunIs (drop at s.now) result }
+pub(crate) fn read_run(r: &[u8]) -> DigitRun
+    ensures count { result.count ≡ digit_run r.now }
+    ensures value { result.value ≡ digits_value (min (digit_run r.now) 18) r.now }
 {
-    let mut value: u64 = 0;
-    let mut i = at;
-    while i < s.len() {
-        let b = s[i];
-        if !is_digit(b) {
-            return DigitRun {
-                count: i - at,
-                value: value,
-            };
+    // What is counted is an answer, not an index.
+    let mut count = 0;
+    let mut value = 0;
+    for b in r {
+        if !is_digit(*b) {
+            break;
         }
-        value = one_more(value, i - at, b);
-        i += 1;
+        value = one_more(value, count, *b);
+        count += 1;
     }
-    DigitRun {
-        count: i - at,
-        value: value,
-    }
+    DigitRun { count, value }
 }

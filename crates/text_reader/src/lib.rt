@@ -3,7 +3,6 @@
 
 mod digits;
 mod ending;
-mod fields;
 mod offset;
 mod reader;
 

@@ -1,80 +1,60 @@
 // The offset at the end of a text.
-ghost use Rattle.std.specs.Prelude.{◌≡◌, ◌+◌, ◌≤◌, ◌<◌, length, drop};
+ghost use Rattle.std.specs.Prelude.{◌≡◌, ◌<◌};
 ghost use Rattle.ion.specs.Text.ReadText.{signed_clock, read_clock, read_offset};
 ghost use Rattle.ion.specs.Value.ReadValue.{same};
 
-use crate::digits::read_marked;
-use ion::offset::{Offset, OffsetMinutes, UNKNOWN_TEXT, ZERO_TEXT};
-use ion::{DigitsRead, OffsetRead};
+use crate::digits::two_digits;
+use ion::BuilderOffset;
+use ion::offset::{OffsetMinutes, UNKNOWN_TEXT, ZERO_TEXT};
 
-// Whether the last six bytes, from index `at` on, are these.
-fn is_rest(s: &[u8], at: usize, bytes: [u8; 6]) -> bool
-    requires { at + 6 ≡ length s.now }
-    ensures { result ≡ same (drop at s.now) bytes }
+// Whether a text is these bytes, all of it. By arrays: a comparison of two slices is not inlined.
+#[tactic(auto, using(crate::proofs::Clocks::texts))]
+pub(crate) fn is_text<const N: usize>(r: &[u8], bytes: &[u8; N]) -> bool
+    ensures { result ≡ same r.now bytes.now }
 {
-    (s[at] == bytes[0])
-        & (s[at + 1] == bytes[1])
-        & (s[at + 2] == bytes[2])
-        & (s[at + 3] == bytes[3])
-        & (s[at + 4] == bytes[4])
-        & (s[at + 5] == bytes[5])
+    match <[u8; N]>::try_from(r) {
+        Ok(text) => text == *bytes,
+        Err(_) => false,
+    }
 }
 
 #[tactic(auto, unfolding(ion::specs::Text::ReadText::signed_clock))]
-fn signed_clock(sign: u8, hours: u32, minutes: u32) -> OffsetRead
+fn signed_clock(sign: u8, hours: u32, minutes: u32) -> Option<BuilderOffset>
     requires { (hours < 100) × (minutes < 100) }
     ensures { result ≡ signed_clock sign hours minutes }
 {
     if 59 < minutes {
-        return OffsetRead::Wrong;
+        return None;
     }
     let z = (hours * 60 + minutes) as i32;
-    if sign == b'+' {
-        return OffsetRead::Found(Offset::Known(OffsetMinutes::new(z)));
+    match sign {
+        b'+' => Some(BuilderOffset::FromLocalFields(OffsetMinutes::new(z))),
+        b'-' => Some(BuilderOffset::FromLocalFields(OffsetMinutes::new(-z))),
+        _ => None,
     }
-    if sign == b'-' {
-        return OffsetRead::Found(Offset::Known(OffsetMinutes::new(-z)));
-    }
-    OffsetRead::Wrong
 }
 
-// A sign, hours and minutes in the last six bytes.
+// A sign, hours and minutes.
 #[tactic(auto, using(crate::proofs::Clocks::clocks))]
-fn read_clock(s: &[u8], at: usize) -> OffsetRead
-    requires { at + 6 ≡ length s.now }
-    ensures { result ≡ read_clock (drop at s.now) }
+fn read_clock(r: &[u8]) -> Option<BuilderOffset>
+    ensures { result ≡ read_clock r.now }
 {
-    let sign = s[at];
-    let DigitsRead::Value(hours) = read_marked(s, at, sign) else {
-        return OffsetRead::Wrong;
+    let [sign, a, b, b':', c, d] = r else {
+        return None;
     };
-    let DigitsRead::Value(minutes) = read_marked(s, at + 3, b':') else {
-        return OffsetRead::Wrong;
-    };
-    signed_clock(sign, hours, minutes)
+    signed_clock(*sign, two_digits(*a, *b)?, two_digits(*c, *d)?)
 }
 
-// The offset that the text from index `at` on is, all of it.
-#[tactic(auto, using(crate::proofs::Clocks::offsets))]
-pub(crate) fn read_offset(s: &[u8], at: usize) -> OffsetRead
-    requires { at ≤ length s.now }
-    ensures { result ≡ read_offset (drop at s.now) }
+// The offset that a text is, all of it.
+#[tactic(auto, unfolding(ion::specs::Text::ReadText::read_offset))]
+pub(crate) fn read_offset(r: &[u8]) -> Option<BuilderOffset>
+    ensures { result ≡ read_offset r.now }
 {
-    let left = s.len() - at;
-    if left == 1 {
-        if s[at] == b'Z' {
-            return OffsetRead::Found(Offset::Known(OffsetMinutes::new(0)));
-        }
-        return OffsetRead::Wrong;
+    if is_text(r, &UNKNOWN_TEXT) {
+        Some(BuilderOffset::Unknown)
+    } else if is_text(r, &ZERO_TEXT) || is_text(r, b"Z") {
+        Some(BuilderOffset::FromLocalFields(OffsetMinutes::new(0)))
+    } else {
+        read_clock(r)
     }
-    if left != 6 {
-        return OffsetRead::Wrong;
-    }
-    if is_rest(s, at, UNKNOWN_TEXT) {
-        return OffsetRead::Found(Offset::Unknown);
-    }
-    if is_rest(s, at, ZERO_TEXT) {
-        return OffsetRead::Found(Offset::Known(OffsetMinutes::new(0)));
-    }
-    read_clock(s, at)
 }

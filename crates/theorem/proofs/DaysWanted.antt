@@ -6,6 +6,7 @@ use mathlib.Core.Bool.{and-false}
 use native.Mathlib.Decide.{dec_le}
 use native.Mathlib.Omega.{arith}
 use lib.IntN.{neg_ℤ}
+use Rattle.std.specs.Prelude.{Option, None, Some}
 use borrow.Author.Tests.{le-leb, lt-leb}
 use Rattle.ion.specs.Calendar.Dates.{is_leap, days_in_month, IsDate}
 use Rattle.ion.specs.Calendar.Shift.{IsDateTime}
@@ -15,8 +16,7 @@ use Rattle.ion.specs.Calls.Utc.{utc_by, utc_fields}
 use Rattle.ion.specs.Value.Decode.{local_by}
 use Rattle.ion.specs.declared.Date.{Date}
 use Rattle.ion.specs.declared.Fields.{Fields}
-use Rattle.ion.specs.declared.offset.Offset.{Offset}
-use Rattle.ion.specs.declared.offset.Offset.TheVariants.{Unknown, Known}
+use Rattle.ion.specs.declared.offset.OffsetMinutes.{OffsetMinutes}
 use Rattle.calendar.proofs.Months.{month_decides, month_least}
 use Rattle.calendar.proofs.Dates.{is_date_lem, month_low, month_of_lem}
 use Rattle.calendar.proofs.Days.{next_day_lem, prev_day_lem}
@@ -51,13 +51,13 @@ own_month t p = has_days t.year t.month (month_low t p) (month_of_lem t p)
 month_before : (t : Date) → IsDate t → 1 < t.month → HasDays t.year (t.month - 1)
 month_before t p h = has_days t.year (t.month - 1) (omega arith) (omega (arith, month_of_lem t p))
 
-utc_time : (o : Offset) (f : Fields) → IsDateTime (time_in f) → IsDateTime (time_in (utc_by o f))
-utc_time Unknown f p = p
-utc_time (Known m) f p = shifted_is (time_in f) (neg_ℤ m.0) p
+utc_time : (o : Option OffsetMinutes) (f : Fields) → IsDateTime (time_in f) → IsDateTime (time_in (utc_by o f))
+utc_time None f p = p
+utc_time (Some m) f p = shifted_is (time_in f) (neg_ℤ m.0) p
 
-local_time_lem : (o : Offset) (u : Fields) → IsDateTime (time_in u) → IsDateTime (time_in (local_by o u))
-local_time_lem Unknown u p = p
-local_time_lem (Known m) u p = shifted_is (time_in u) m.0 p
+local_time_lem : (o : Option OffsetMinutes) (u : Fields) → IsDateTime (time_in u) → IsDateTime (time_in (local_by o u))
+local_time_lem None u p = p
+local_time_lem (Some m) u p = shifted_is (time_in u) m.0 p
 
 utc_form_time : (f : Fields) → IsDateTime (time_in f) → IsDateTime (time_in (utc_fields f))
 unfolding utc_fields

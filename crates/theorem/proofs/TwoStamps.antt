@@ -1,73 +1,45 @@
 -- The theorem on any two accepted timestamps, and on any two that the builder gives. Assumes nothing.
-use mathlib.Core.Path.{◌≡◌, sym, ap, ap₂, ◌∙◌}
+use mathlib.Core.Path.{◌≡◌, refl, sym, ap, ap₂, ◌∙◌}
 use mathlib.Core.Logic.{⊎_elim}
-use mathlib.Core.Bool.{true}
 use mathlib.Core.List.{List, [], ◌++◌, append-nil}
 use Prim.Native.Nat.{ℕ, ◌^◌}
 use native.Mathlib.Nat.{div-add-mod', mod-lt}
 use lib.Dec.{lit<}
 use lib.IntN.{pos, nat_abs, ◌-ℤ◌}
+use Rattle.std.specs.Prelude.{Result, Ok, IsOk}
+use Rattle.std.specs.Ordering.{nat_cmp}
 use borrow.Author.Tests.{eq-eqb, eqb-true}
 use Rattle.ion.specs.Pair.Pair.{word_in}
-use Rattle.ion.specs.Calls.Build.{accepted_build, build_of}
+use Rattle.ion.specs.Calls.Build.{build_of}
 use Rattle.ion.specs.Calls.Stages.{Stage, Gives}
 use Rattle.ion.specs.Calls.Check.{check_of}
 use Rattle.ion.specs.Calls.Accepted.{Accepted}
 use Rattle.ion.specs.Pair.Count.{count_of}
-use Rattle.ion.specs.Calls.Order.{order_of, size_of_difference, cmp_of, eq_of, distance_of}
+use Rattle.ion.specs.Calls.Order.{size_of_difference}
 use Rattle.ion.specs.Text.Format.{text_of}
 use Rattle.ion.specs.Value.Encode.{value_of}
-use Rattle.ion.specs.Value.ReadValue.{read_value}
 use Rattle.ion.specs.declared.BuilderFields.{BuilderFields}
 use Rattle.ion.specs.declared.Timestamp.{Timestamp}
-use Rattle.ion.specs.declared.Read.{Read}
-use Rattle.ion.specs.declared.Built.{Built}
-use Rattle.timestamp.proofs.Accepts.{check_gives, check_accepts, check_zero, built_checks}
+use Rattle.ion.specs.declared.refusal.Refusal.{Refusal}
+use Rattle.timestamp.proofs.Accepts.{check_gives, check_accepts, built_checks}
 use Rattle.order.proofs.Answers.{cmp_counts, eq_counts, distance_counts}
 use Rattle.text_reader.proofs.ReadBack.{text_back, texts_read, texts_inj, text_inj}
 use Rattle.text_reader.proofs.Exact.{text_exact}
 use Rattle.value_reader.proofs.Values as values
 use Rattle.value_reader.proofs.Readings.{value_apart}
-use Rattle.scans.specs.Scan.{scan_bytes, read_scan}
+use Rattle.scans.specs.Scan.{scan_bytes}
 use Rattle.scans.specs.declared.Scan.{Scan}
-use Rattle.scans.specs.declared.ScanRead.{ScanRead}
 use Rattle.scan_laws.proofs.Scans.{Stored, scan_back, scans_apart}
-use Rattle.theorem.specs.TwoStamps.{utc_count, SignOf, Differ, ReadFromTexts, SameAnswers, TwoStamps}
+use Rattle.theorem.specs.TwoStamps.{utc_count, SignOf, Differ, ReadFromTexts, BothOk, TwoStamps}
 use Rattle.theorem.proofs.UtcCounts.{count_exact, order_sign}
 use Rattle.theorem.proofs.Bytes.{writes, reads_back, text_reads_back, stored, scan_writes, scan_reads_back}
 
--- what a check or a reader gives back
-module _ {x : Built} (s : Timestamp) (e : x ≡ accepted_build s) where
-  built_stamp : x.stamp ≡ s
-  built_stamp = ap (λ (b : Built). b.stamp) e
-
-  built_number : x.number ≡ 0
-  built_number = ap (λ (b : Built). b.number) e
-
-module _ (s : Timestamp) (p : Accepted s) (r : List ℕ) where
-  -- what is read of the value with any bytes after it
-  value_stamp : (read_value (value_of s ++ r)).stamp ≡ s
-  value_stamp = ap (λ (x : Read). x.stamp) (values.value_back s p r)
-
-  value_number : (read_value (value_of s ++ r)).number ≡ 0
-  value_number = ap (λ (x : Read). x.number) (values.value_back s p r)
-
-same_answers : {x y a b : Timestamp} → x ≡ a → y ≡ b → SameAnswers x y a b
-same_answers e f = (ap₂ distance_of e f, ap₂ cmp_of e f, ap₂ eq_of e f)
-
--- what is read of scans with any bytes after them
-scan_read : {x : Scan} → Stored x → (r : List ℕ)
-    → ((read_scan (scan_bytes x ++ r)).number ≡ 0) × ((read_scan (scan_bytes x ++ r)).scan.stamp ≡ x.stamp)
-scan_read {x} p r = let e = scan_back x r p in (ap (λ (y : ScanRead). y.number) e, ap (λ (y : ScanRead). y.scan.stamp) e)
+-- two answers that are accepted
+both_by : {A B : Type 0} {r : Result A Refusal} {q : Result B Refusal} {x : A} {y : B} (P : A → B → Type 0)
+    → r ≡ Ok x → q ≡ Ok y → P x y → BothOk r q P
+both_by P e f h = rw (e, f) h
 
 module _ {x y : Scan} (h : Stored x) (k : Stored y) where
-  scans_read : (d e : List ℕ) → ((read_scan (scan_bytes x ++ d)).number ≡ 0) × ((read_scan (scan_bytes y ++ e)).number ≡ 0)
-      × SameAnswers (read_scan (scan_bytes x ++ d)).scan.stamp (read_scan (scan_bytes y ++ e)).scan.stamp x.stamp y.stamp
-  scans_read d e =
-      let m = scan_read h d in
-      let n = scan_read k e in
-      (m.0, n.0, same_answers m.1 n.1)
-
   scan_stamps : (q r : List ℕ) → scan_bytes x ++ q ≡ scan_bytes y ++ r → x.stamp ≡ y.stamp
   scan_stamps q r e = ap (λ (z : Scan). z.stamp) (scans_apart x y h k q r e)
 
@@ -96,20 +68,13 @@ module _ (a b : Timestamp) (p : Accepted a) (q : Accepted b) where
   difference : pos (count_of a) -ℤ pos (count_of b) ≡ utc_count a -ℤ utc_count b
   difference = ap₂ ◌-ℤ◌ (count_exact a p) (count_exact b q)
 
-  sign_exact : SignOf (order_of (count_of a) (count_of b)) (utc_count a -ℤ utc_count b)
+  sign_exact : SignOf (nat_cmp (count_of a) (count_of b)) (utc_count a -ℤ utc_count b)
   sign_exact = rw (← difference) (order_sign (count_of a) (count_of b))
 
   same_count : utc_count a ≡ utc_count b → count_of a ≡ count_of b
   same_count e =
       let x : pos (count_of a) ≡ pos (count_of b) = count_exact a p ∙ e ∙ sym (count_exact b q) in
       cc
-
-  eq_exact : ((eq_of a b).equal ≡ true → utc_count a ≡ utc_count b) × (utc_count a ≡ utc_count b → (eq_of a b).equal ≡ true)
-  eq_exact =
-      rw (eq_counts a b p q) (
-        (λ e. sym (count_exact a p) ∙ ap pos (eqb-true (count_of a) (count_of b) e) ∙ count_exact b q),
-        (λ e. eq-eqb (count_of a) (count_of b) (same_count e)),
-      )
 
   together : TwoStamps a b
   together =
@@ -122,26 +87,23 @@ module _ (a b : Timestamp) (p : Accepted a) (q : Accepted b) where
         cmp_accepted = rw (cmp_counts a b p q);
         cmp_exact = rw (cmp_counts a b p q) sign_exact;
         eq_accepted = rw (eq_counts a b p q);
-        eq_exact = eq_exact;
+        eq_exact =
+            rw (eq_counts a b p q) (
+              (λ e. sym (count_exact a p) ∙ ap pos (eqb-true (count_of a) (count_of b) e) ∙ count_exact b q),
+              (λ e. eq-eqb (count_of a) (count_of b) (same_count e)),
+            );
         pair_back = (check_accepts a p, check_accepts b q);
         value_back = (reads_back a p, reads_back b q);
         text_back = (text_reads_back a p, text_reads_back b q);
         texts_exact = (from_texts a p, from_texts b q);
         scan_back = ((λ t g h k. scan_reads_back (stored a p t g h k)), (λ t g h k. scan_reads_back (stored b q t g h k)));
-        same_by_pair = same_answers (built_stamp a (check_accepts a p)) (built_stamp b (check_accepts b q));
-        same_by_value = λ d e. (
-          value_number a p d,
-          value_number b q e,
-          same_answers (value_stamp a p d) (value_stamp b q e),
-        );
-        same_by_text = (
-          built_number a (text_back a p),
-          built_number b (text_back b q),
-          same_answers (built_stamp a (text_back a p)) (built_stamp b (text_back b q)),
-        );
-        same_by_scan = λ t g h k u v i j. scans_read (stored a p t g h k) (stored b q u v i j);
-        texts_written = (writes (check_zero a p) (text_of a), writes (check_zero b q) (text_of b));
-        values_written = (writes (check_zero a p) (value_of a), writes (check_zero b q) (value_of b));
+        same_by_pair = both_by _ (check_accepts a p) (check_accepts b q) (refl, refl, refl);
+        same_by_value = λ d e. both_by _ (values.value_back a p d) (values.value_back b q e) (refl, refl, refl);
+        same_by_text = both_by _ (text_back a p) (text_back b q) (refl, refl, refl);
+        same_by_scan = λ t g h k u v i j d e.
+            both_by _ (scan_back _ d (stored a p t g h k)) (scan_back _ e (stored b q u v i j)) (refl, refl, refl);
+        texts_written = (writes (check_accepts a p) (text_of a), writes (check_accepts b q) (text_of b));
+        values_written = (writes (check_accepts a p) (value_of a), writes (check_accepts b q) (value_of b));
         scans_written = ((λ t g h k. scan_writes (stored a p t g h k)), (λ t g h k. scan_writes (stored b q t g h k)));
         texts_differ = λ d e. not_same a b d (text_inj a b p q e);
         texts_apart = λ d s h k. not_same a b d (texts_inj a b s p q h k);
@@ -152,16 +114,16 @@ module _ (a b : Timestamp) (p : Accepted a) (q : Accepted b) where
       }
 
 -- for every two timestamps that the packed check accepts, whatever their precisions and offsets
-pub two_stamps : (a b : Timestamp) → (check_of a).number ≡ 0 → (check_of b).number ≡ 0 → TwoStamps a b
+pub two_stamps : (a b : Timestamp) → IsOk (check_of a) → IsOk (check_of b) → TwoStamps a b
 two_stamps a b p q = together a b (check_gives a p) (check_gives b q)
 
 -- ---- and so for every two that the builder gives
 
-accepted_built : {t : Stage} {f : BuilderFields} → Gives t f → (build_of f).number ≡ 0 → (check_of (build_of f).stamp).number ≡ 0
-accepted_built h e = ap (λ (b : Built). b.number) (built_checks h e) ∙ e
+accepted_built : {t : Stage} {f : BuilderFields} {s : Timestamp} → Gives t f → build_of f ≡ Ok s → IsOk (check_of s)
+accepted_built h e = rw (built_checks h e)
 
 -- of the fields that the stages give
 pub two_built :
-    {t u : Stage} {f g : BuilderFields} → Gives t f → Gives u g →
-    (build_of f).number ≡ 0 → (build_of g).number ≡ 0 → TwoStamps (build_of f).stamp (build_of g).stamp
-two_built {t} {u} {f} {g} h k p q = two_stamps (build_of f).stamp (build_of g).stamp (accepted_built h p) (accepted_built k q)
+    {t u : Stage} {f g : BuilderFields} {a b : Timestamp} → Gives t f → Gives u g →
+    build_of f ≡ Ok a → build_of g ≡ Ok b → TwoStamps a b
+two_built {t} {u} {f} {g} {a} {b} h k p q = two_stamps a b (accepted_built h p) (accepted_built k q)

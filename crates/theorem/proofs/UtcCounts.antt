@@ -4,13 +4,14 @@ use mathlib.Core.Path.{◌≡◌, sym, ap, ◌∙◌}
 use Prim.Native.Nat.{ℕ, ◌+◌, ◌-◌, ◌*◌, ◌^◌}
 use native.Mathlib.Omega.{arith}
 use lib.IntN.{ℤ, pos, negsuc, ◌-ℤ◌, ◌*ℤ◌}
-use Rattle.integers.proofs.Parts.{up, down, sub_parts, mul_parts, parts_eq}
+use borrow.Author.Differences.{up, down, product_is, same_in}
+use Rattle.integers.proofs.Parts.{sub_parts}
 use Rattle.ion.specs.Pair.Pair.{word_in}
 use Rattle.ion.specs.Pair.Word.{fields_of}
 use Rattle.ion.specs.Pair.Count.{attoseconds_in, offset_in, count_of}
 use Rattle.ion.specs.Calendar.Shift.{minute_number}
 use Rattle.ion.specs.Calls.Accepted.{time_in, Valid, Accepted}
-use Rattle.ion.specs.Calls.Order.{order_of}
+use Rattle.std.specs.Ordering.{nat_cmp}
 use Rattle.ion.specs.declared.Fields.{Fields}
 use Rattle.ion.specs.declared.Timestamp.{Timestamp}
 use Rattle.timestamp.proofs.CheckedFields.{given_same}
@@ -52,13 +53,13 @@ count_is s p =
     let l = attoseconds_in (minute_number (time_in f)) f.second s.attoseconds in
     let z = o *ℤ pos (60 * 10 ^ 18) in
     let e = scaled _ _ (up o) (down o) f.second s.attoseconds (utc_parts f (valid_local p.fields)) in
-    parts_eq (pos (count_of s)) (pos l -ℤ z) (omega (arith, sub_parts (pos l) z, mul_parts o (60 * 10 ^ 18), e))
+    same_in (pos (count_of s)) (pos l -ℤ z) (omega (arith, sub_parts (pos l) z, product_is o (pos (60 * 10 ^ 18)), e))
 
 pub count_exact : (s : Timestamp) → Accepted s → pos (count_of s) ≡ utc_count s
 count_exact s p = count_is s p ∙ ap (λ (f : Fields). utc_count_in f s.attoseconds) (has_first_values p.fields)
 
 -- the order of two counts is the sign of their difference
-pub order_sign : (m n : ℕ) → SignOf (order_of m n) (pos m -ℤ pos n)
+pub order_sign : (m n : ℕ) → SignOf (nat_cmp m n) (pos m -ℤ pos n)
 order_sign m n =
     by_order m n (λ z. SignOf z (pos m -ℤ pos n))
     (λ h. rw (is (negsuc (n - m - 1)) (omega arith)) (below (n - m - 1)))
@@ -66,4 +67,4 @@ order_sign m n =
     (λ h. rw (is (pos (m - n)) (omega arith)) (above (m - n) (omega arith)))
   where
     is : (z : ℤ) → up z + n ≡ m + down z → pos m -ℤ pos n ≡ z
-    is z e = parts_eq (pos m -ℤ pos n) z (omega (arith, e, sub_parts (pos m) (pos n)))
+    is z e = same_in (pos m -ℤ pos n) z (omega (arith, e, sub_parts (pos m) (pos n)))

@@ -1,11 +1,10 @@
 -- Where a day is wanted, the 0 of `days_in_month` is never met: so of each caller of the months' lengths, and of what is built on
 -- them. Assumes nothing.
-use Rattle.std.specs.Prelude.{ℕ, ◌-◌, ◌≤◌, ◌<◌, ◌≡◌, ◌⊎◌, true, ℤ, pos, neg_ℤ}
+use Rattle.std.specs.Prelude.{ℕ, ◌-◌, ◌≤◌, ◌<◌, ◌≡◌, ◌⊎◌, true, ℤ, pos, neg_ℤ, Option, Err}
 use Rattle.ion.specs.Calendar.Dates.{month_length, days_in_month, is_date, IsDate, next_day, prev_day}
 use Rattle.ion.specs.Calendar.Shift.{IsDateTime, add_days, shifted}
 use Rattle.ion.specs.Pair.Offset.{offset_minutes}
-use Rattle.ion.specs.Calls.Refusal.{local_year_refused}
-use Rattle.ion.specs.Calls.Build.{is_day, moved_time, refused_build, build_of}
+use Rattle.ion.specs.Calls.Build.{is_day, moved_time, build_of}
 use Rattle.ion.specs.Calls.Accepted.{InBounds, time_in}
 use Rattle.ion.specs.Calls.Utc.{utc_fields}
 use Rattle.ion.specs.Value.Decode.{local_by}
@@ -15,7 +14,7 @@ use Rattle.ion.specs.declared.Fields.{Fields}
 use Rattle.ion.specs.declared.BuilderFields.{BuilderFields}
 use Rattle.ion.specs.declared.BuilderOffset.TheVariants.{FromUtcFields}
 use Rattle.ion.specs.declared.offset.OffsetMinutes.{OffsetMinutes}
-use Rattle.ion.specs.declared.offset.Offset.{Offset}
+use Rattle.ion.specs.declared.refusal.Refusal.TheVariants as refusal
 
 -- no such month, or a year above the picker's
 abbrev pub Unanswered : ℕ → ℕ → Type 0
@@ -40,7 +39,7 @@ pub record DaysWanted : Type 0 where
   -- so are the local time of a field set in UTC, before check 11 looks at its year, the UTC form, and the local fields of a value
   pub built : (f : BuilderFields) (m : OffsetMinutes) → InBounds f → is_day f ≡ true → IsDateTime (moved_time f m)
   pub utc_form : (f : Fields) → IsDateTime (time_in f) → IsDateTime (time_in (utc_fields f))
-  pub value_read : (o : Offset) (u : Fields) → IsDateTime (time_in u) → IsDateTime (time_in (local_by o u))
-  -- UTC year 0 and an offset of n minutes back, past 1 January or not: where the checks 1 to 10 pass, 11
+  pub value_read : (o : Option OffsetMinutes) (u : Fields) → IsDateTime (time_in u) → IsDateTime (time_in (local_by o u))
+  -- UTC year 0 and an offset of n minutes back, past 1 January or not: where the checks 1 to 10 pass, its local year is refused
   pub year_zero : (f : BuilderFields) (n : ℕ) → InBounds f → is_day f ≡ true → f.year ≡ 0
-      → f.offset ≡ FromUtcFields (offset_minutes (neg_ℤ (pos n))) → build_of f ≡ refused_build local_year_refused
+      → f.offset ≡ FromUtcFields (offset_minutes (neg_ℤ (pos n))) → build_of f ≡ Err refusal.LocalYear

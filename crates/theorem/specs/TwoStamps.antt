@@ -1,24 +1,26 @@
 -- What demand 3 says of any two accepted timestamps, sentence by sentence, of the definitions that the contracts cite. Assumes nothing.
 use Rattle.std.specs.Prelude.{◌≡◌, ◌⊎◌, true, List, ◌++◌, ℕ, ◌+◌, ◌*◌, ◌^◌, ◌≤◌}
-use Rattle.std.specs.Prelude.{◌<◌, ℤ, pos, negsuc, nat_abs, ◌-ℤ◌, ◌*ℤ◌, length, take, drop}
+use Rattle.std.specs.Prelude.{◌<◌, ℤ, pos, negsuc, nat_abs, ◌-ℤ◌, ◌*ℤ◌, length, take, drop, Result, Ok, IsOk, IsOkAnd, IfOk}
+use Rattle.std.specs.declared.cmp.Ordering.{Ordering}
+use Rattle.std.specs.declared.cmp.Ordering.TheVariants.{Less, Equal, Greater}
 use Rattle.ion.specs.Pair.Pair.{word_in}
 use Rattle.ion.specs.Pair.Word.{fields_of}
 use Rattle.ion.specs.Calls.Output.{over, put_after, wrote_after}
 use Rattle.ion.specs.Calendar.Shift.{minute_number}
-use Rattle.ion.specs.Calls.Build.{accepted_build}
-use Rattle.ion.specs.Calls.Check.{given_at, check_of, check_number}
+use Rattle.ion.specs.Calls.Check.{given_at, check_of}
 use Rattle.ion.specs.Calls.Accepted.{time_in}
 use Rattle.ion.specs.Pair.Count.{attoseconds_in, offset_in, count_of}
 use Rattle.ion.specs.Calls.Order.{cmp_of, eq_of, distance_of}
 use Rattle.ion.specs.Text.Format.{text_of}
 use Rattle.ion.specs.Text.ReadText.{read_text_of}
 use Rattle.ion.specs.Value.Encode.{value_of}
-use Rattle.ion.specs.Value.ReadValue.{accepted_reading, read_value}
+use Rattle.ion.specs.Value.ReadValue.{read_value}
 use Rattle.ion.specs.declared.Timestamp.{Timestamp}
 use Rattle.ion.specs.declared.Fields.{Fields}
+use Rattle.ion.specs.declared.refusal.Refusal.{Refusal}
 use Rattle.text_reader.specs.Texts.{TextFor}
 use Rattle.scans.specs.Number.{largest}
-use Rattle.scans.specs.Scan.{scan_of, scan_bytes, scan_number, accepted_scan, read_scan}
+use Rattle.scans.specs.Scan.{scan_of, scan_bytes, scan_check, read_scan}
 use Rattle.scans.specs.declared.Scan.{Scan}
 
 -- the fields, with the first value of each that the precision does not have
@@ -43,42 +45,37 @@ utc_count_in f a = pos (attoseconds_in (minute_number (time_in f)) f.second a) -
 abbrev pub utc_count : Timestamp → ℤ
 utc_count s = utc_count_in (with_first_values (fields_of (word_in s))) s.attoseconds
 
--- an order -1, 0 or 1, and the sign of a signed number
-pub data SignOf : ℤ → ℤ → Type 0 where
-  below : (n : ℕ) → SignOf (negsuc 0) (negsuc n)
-  none : SignOf (pos 0) (pos 0)
-  above : (n : ℕ) → 0 < n → SignOf (pos 1) (pos n)
+-- an order, and the sign of a signed number
+pub data SignOf : Ordering → ℤ → Type 0 where
+  below : (n : ℕ) → SignOf Less (negsuc n)
+  none : SignOf Equal (pos 0)
+  above : (n : ℕ) → 0 < n → SignOf Greater (pos n)
 
 -- the words or the attoseconds are not the same
 abbrev pub Differ : Timestamp → Timestamp → Type 0
 Differ a b = (word_in a ≡ word_in b → ⊥) ⊎ (a.attoseconds ≡ b.attoseconds → ⊥)
 
--- what a writer of the bytes b, whose check gave the number k, does in any buffer with room for them: it answers 0 and their number,
--- and writes them
-abbrev pub Writes : ℕ → List ℕ → Type 0
-Writes k b =
-    (d : List ℕ) (at : ℕ) → at + length b ≤ length d
-    → (wrote_after k d at b ≡ record { number = 0; written = length b }) × (put_after k d at b ≡ over d at b)
+-- what a writer of the bytes b that first makes the check c does in any buffer with room for them: it answers their number, and
+-- writes them
+abbrev pub Writes : Result Timestamp Refusal → List ℕ → Type 0
+Writes c b =
+    (d : List ℕ) (at : ℕ) → at + length b ≤ length d → (wrote_after c d at b ≡ Ok (length b)) × (put_after c d at b ≡ over d at b)
 
--- P holds of the bytes that such a writer wrote, answering 0, and of the number of bytes that it answered
-abbrev pub AsWritten : ℕ → List ℕ → (List ℕ → ℕ → Type 0) → Type 0
-AsWritten k b P =
-    (d : List ℕ) (at : ℕ)
-    → let w = wrote_after k d at b in
-    let e = put_after k d at b in
-    w.number ≡ 0 → P (take w.written (drop at e)) w.written
+-- P holds of the bytes that such a writer wrote, and of the number of bytes that it answered
+abbrev pub AsWritten : Result Timestamp Refusal → List ℕ → (List ℕ → ℕ → Type 0) → Type 0
+AsWritten c b P = (d : List ℕ) (at : ℕ) → IfOk (wrote_after c d at b) (λ n. P (take n (drop at (put_after c d at b))) n)
 
 -- what the value writer wrote is read back with any bytes or none after it: the pair, and as many taken as were written
 abbrev pub ReadsBack : Timestamp → Type 0
-ReadsBack s = AsWritten (check_number s) (value_of s) (λ v n. (r : List ℕ) → read_value (v ++ r) ≡ accepted_reading s n)
+ReadsBack s = AsWritten (check_of s) (value_of s) (λ v n. (r : List ℕ) → read_value (v ++ r) ≡ Ok (s, n))
 
 -- what the text writer wrote, and nothing after it, is read back: the pair
 abbrev pub TextReadsBack : Timestamp → Type 0
-TextReadsBack s = AsWritten (check_number s) (text_of s) (λ x n. read_text_of x ≡ accepted_build s)
+TextReadsBack s = AsWritten (check_of s) (text_of s) (λ x n. read_text_of x ≡ Ok s)
 
 -- what the scan writer wrote is read back with any bytes or none after it: the scan, and as many taken as were written
 abbrev pub ScanReadsBack : Scan → Type 0
-ScanReadsBack x = AsWritten (scan_number x) (scan_bytes x) (λ v n. (r : List ℕ) → read_scan (v ++ r) ≡ accepted_scan x n)
+ScanReadsBack x = AsWritten (scan_check x) (scan_bytes x) (λ v n. (r : List ℕ) → read_scan (v ++ r) ≡ Ok (x, n))
 
 -- P holds of the scans of the timestamp s, with any tag and any guard up to 4,294,967,295
 abbrev pub EachScan : Timestamp → (Scan → Type 0) → Type 0
@@ -90,7 +87,11 @@ EachTwo a b P = EachScan a (λ x. EachScan b (λ y. P x y))
 
 -- the texts that are read as the timestamp s are its own, and no others
 abbrev pub ReadFromTexts : Timestamp → Type 0
-ReadFromTexts s = (x : List ℕ) → (read_text_of x ≡ accepted_build s → TextFor s x) × (TextFor s x → read_text_of x ≡ accepted_build s)
+ReadFromTexts s = (x : List ℕ) → (read_text_of x ≡ Ok s → TextFor s x) × (TextFor s x → read_text_of x ≡ Ok s)
+
+-- both are accepted, and P holds of their values
+abbrev pub BothOk : {A B : Type 0} → Result A Refusal → Result B Refusal → (A → B → Type 0) → Type 0
+BothOk r q P = IsOkAnd r (λ x. IsOkAnd q (λ y. P x y))
 
 -- x and y give the answers of a and b
 abbrev pub SameAnswers : Timestamp → Timestamp → Timestamp → Timestamp → Type 0
@@ -99,16 +100,16 @@ SameAnswers x y a b = (distance_of x y ≡ distance_of a b) × (cmp_of x y ≡ c
 pub record TwoStamps (a b : Timestamp) : Type 0 where
   -- distance, `cmp` and `==` follow the UTC attosecond counts exactly
   pub count_exact : (pos (count_of a) ≡ utc_count a) × (pos (count_of b) ≡ utc_count b)
-  pub distance_accepted : (distance_of a b).number ≡ 0
-  pub distance_exact : (distance_of a b).seconds * 10 ^ 18 + (distance_of a b).attoseconds ≡ nat_abs (utc_count a -ℤ utc_count b)
-  pub distance_parts : (distance_of a b).attoseconds < 10 ^ 18
-  pub distance_sign : SignOf (distance_of a b).sign (utc_count a -ℤ utc_count b)
-  pub cmp_accepted : (cmp_of a b).number ≡ 0
-  pub cmp_exact : SignOf (cmp_of a b).order (utc_count a -ℤ utc_count b)
-  pub eq_accepted : (eq_of a b).number ≡ 0
-  pub eq_exact : ((eq_of a b).equal ≡ true → utc_count a ≡ utc_count b) × (utc_count a ≡ utc_count b → (eq_of a b).equal ≡ true)
+  pub distance_accepted : IsOk (distance_of a b)
+  pub distance_exact : IsOkAnd (distance_of a b) (λ d. d.seconds * 10 ^ 18 + d.attoseconds ≡ nat_abs (utc_count a -ℤ utc_count b))
+  pub distance_parts : IsOkAnd (distance_of a b) (λ d. d.attoseconds < 10 ^ 18)
+  pub distance_sign : IsOkAnd (distance_of a b) (λ d. SignOf d.order (utc_count a -ℤ utc_count b))
+  pub cmp_accepted : IsOk (cmp_of a b)
+  pub cmp_exact : IsOkAnd (cmp_of a b) (λ o. SignOf o (utc_count a -ℤ utc_count b))
+  pub eq_accepted : IsOk (eq_of a b)
+  pub eq_exact : IsOkAnd (eq_of a b) (λ e. (e ≡ true → utc_count a ≡ utc_count b) × (utc_count a ≡ utc_count b → e ≡ true))
   -- through the packed pair and back
-  pub pair_back : (check_of a ≡ accepted_build a) × (check_of b ≡ accepted_build b)
+  pub pair_back : (check_of a ≡ Ok a) × (check_of b ≡ Ok b)
   -- through the value bytes and back, with whatever bytes after them
   pub value_back : ReadsBack a × ReadsBack b
   -- through the text and back, and from no text but its own
@@ -117,18 +118,15 @@ pub record TwoStamps (a b : Timestamp) : Type 0 where
   -- through a scan and back, with any tag and any guard, and whatever bytes after it
   pub scan_back : EachScan a ScanReadsBack × EachScan b ScanReadsBack
   -- and then the same answers
-  pub same_by_pair : SameAnswers (check_of a).stamp (check_of b).stamp a b
-  pub same_by_value : (d e : List ℕ) → ((read_value (value_of a ++ d)).number ≡ 0) × ((read_value (value_of b ++ e)).number ≡ 0)
-      × SameAnswers (read_value (value_of a ++ d)).stamp (read_value (value_of b ++ e)).stamp a b
-  pub same_by_text : ((read_text_of (text_of a)).number ≡ 0) × ((read_text_of (text_of b)).number ≡ 0)
-      × SameAnswers (read_text_of (text_of a)).stamp (read_text_of (text_of b)).stamp a b
+  pub same_by_pair : BothOk (check_of a) (check_of b) (λ x y. SameAnswers x y a b)
+  pub same_by_value : (d e : List ℕ) → BothOk (read_value (value_of a ++ d)) (read_value (value_of b ++ e)) (λ x y. SameAnswers x.0 y.0 a b)
+  pub same_by_text : BothOk (read_text_of (text_of a)) (read_text_of (text_of b)) (λ x y. SameAnswers x y a b)
   pub same_by_scan : EachTwo a b (λ x y. (d e : List ℕ)
-      → ((read_scan (scan_bytes x ++ d)).number ≡ 0) × ((read_scan (scan_bytes y ++ e)).number ≡ 0)
-      × SameAnswers (read_scan (scan_bytes x ++ d)).scan.stamp (read_scan (scan_bytes y ++ e)).scan.stamp a b)
+      → BothOk (read_scan (scan_bytes x ++ d)) (read_scan (scan_bytes y ++ e)) (λ u v. SameAnswers u.0.stamp v.0.stamp a b))
   -- text, value and scan are what the writers, given room for them, write
-  pub texts_written : Writes (check_number a) (text_of a) × Writes (check_number b) (text_of b)
-  pub values_written : Writes (check_number a) (value_of a) × Writes (check_number b) (value_of b)
-  pub scans_written : EachScan a (λ x. Writes (scan_number x) (scan_bytes x)) × EachScan b (λ x. Writes (scan_number x) (scan_bytes x))
+  pub texts_written : Writes (check_of a) (text_of a) × Writes (check_of b) (text_of b)
+  pub values_written : Writes (check_of a) (value_of a) × Writes (check_of b) (value_of b)
+  pub scans_written : EachScan a (λ x. Writes (scan_check x) (scan_bytes x)) × EachScan b (λ x. Writes (scan_check x) (scan_bytes x))
   -- different timestamps have different texts, values and scans, no text that is read as the one is read as the other, and no value or
   -- scan of the one is the beginning of the other's
   pub texts_differ : Differ a b → text_of a ≡ text_of b → ⊥

@@ -1,31 +1,34 @@
 -- The fields that the packed check hands to the builder: staged always, and all of them where they are valid. Assumes nothing.
 use mathlib.Core.Path.{◌≡◌, refl, sym, ap, ap₂, subst, ◌∙◌}
-use mathlib.Core.Bool.{Bool, false, not}
-use mathlib.Core.List.{List, ◌++◌}
+use mathlib.Core.Bool.{false, not}
 use Prim.Native.Nat.{ℕ, zero, suc, ◌%◌, ◌^◌, ◌≤◌, ◌<◌, min}
 use native.Mathlib.Nat.{mod-eq_of_lt}
 use native.Mathlib.Decide.{dec_le, dec_lt}
 use native.Mathlib.Omega.{arith}
 use borrow.Author.Tests.{lt-ltb, le-leb, lt-leb, ne_eqb}
+use Rattle.std.specs.Prelude.{Option, None, Some, Result, Ok}
+use Rattle.std.specs.Result.{result_and}
 use Rattle.ion.specs.Pair.Offset.{WithinDay, raw_of, offset_of}
 use Rattle.ion.specs.Pair.Word.{word_of}
 use Rattle.ion.specs.Pair.Pair.{packed_pair}
 use Rattle.ion.specs.Pair.Fraction.{scale}
-use Rattle.ion.specs.Calls.Build.{precision_number, first_of, range_checks, is_year, is_day}
+use Rattle.ion.specs.Calls.Build.{precision_number, first_of, is_year, is_day}
 use Rattle.ion.specs.Calls.Build.{to_offset, route_checks, local_checks, given_time}
-use Rattle.ion.specs.Calls.Build.{local_time, pair_at, accepted_build, build_answer, build_number, build_pair, build_of}
+use Rattle.ion.specs.Calls.Build.{local_time, pair_at, build_checks, build_pair, build_of}
 use Rattle.ion.specs.Calls.Check.{precision_of, from_local, offset_at, given_at, fraction_at, rebuilt}
 use Rattle.ion.specs.Calls.Accepted.{InBounds, Staged, Valid, date_in}
 use Rattle.ion.specs.declared.Fields.{Fields}
 use Rattle.ion.specs.declared.BuilderFields.{BuilderFields}
 use Rattle.ion.specs.declared.offset.RawOffset.{RawOffset}
-use Rattle.ion.specs.declared.offset.Offset.{Offset}
-use Rattle.ion.specs.declared.offset.Offset.TheVariants.{Unknown, Known}
+use Rattle.ion.specs.declared.offset.OffsetMinutes.{OffsetMinutes}
+use Rattle.ion.specs.declared.Timestamp.{Timestamp}
+use Rattle.ion.specs.declared.refusal.Refusal.{Refusal}
 use Rattle.ion.proofs.Offsets.{back_and_raw}
 use Rattle.calendar.proofs.Dates.{date_is, month_of_lem, day_of_lem}
 use Rattle.fraction.proofs.Scales.{cut_same, cut_multiple}
-use Rattle.builder.proofs.Checks.{pass_zero, pass_append}
-use Rattle.builder.proofs.Bounds.{bounds_pass, year_decides}
+use Rattle.builder.proofs.Checks.{pass_ok}
+use Rattle.builder.proofs.Bounds.{bounds_ranges, year_decides}
+use Rattle.builder.proofs.Routed.{checks_routed}
 use Rattle.timestamp.proofs.Rebuilt.{check_digits, check_built}
 use Rattle.timestamp.proofs.Valid.{valid_offset}
 
@@ -138,15 +141,15 @@ rebuilt_all {f} {a} v =
 
 -- ---- valid fields are built into their word
 
-offset_is : (o : Offset) → to_offset (from_local o) ≡ o
-offset_is Unknown = refl
-offset_is (Known m) = refl
+offset_is : (o : Option OffsetMinutes) → to_offset (from_local o) ≡ o
+offset_is None = refl
+offset_is (Some m) = refl
 
 -- the offset of a packed word is that of local fields
-offset_local : (b : BuilderFields) (o : Offset)
+offset_local : (b : BuilderFields) (o : Option OffsetMinutes)
     → (route_checks b (from_local o) ≡ local_checks b) × (local_time b (from_local o) ≡ given_time b)
-offset_local b Unknown = (refl, refl)
-offset_local b (Known m) = (refl, refl)
+offset_local b None = (refl, refl)
+offset_local b (Some m) = (refl, refl)
 
 all_bounds : {f : Fields} {a : ℕ} → Valid f a → InBounds (all_of f a)
 all_bounds {f} {a} v =
@@ -162,15 +165,14 @@ all_bounds {f} {a} v =
       offset = subst WithinDay (sym (offset_is (offset_of f.offset))) (valid_offset v);
     }
 
-all_number : {f : Fields} {a : ℕ} → Valid f a → build_number (all_of f a) ≡ 0
-unfolding build_number
-all_number {f} {a} v =
+all_checks : {f : Fields} {a : ℕ} → Valid f a → build_checks (all_of f a) ≡ Ok tt
+all_checks {f} {a} v =
     let b = all_of f a in
     let y : not (is_year f.year) ≡ false = ap not ((year_decides f.year).1 (v.from_year, v.to_year)) in
     let d : not (is_day b) ≡ false = ap not (date_is (date_in f) v.date) in
-    ap (λ (l : List (Bool × ℕ)). first_of (range_checks b ++ l)) (offset_local b (offset_of f.offset)).0
-    ∙ pass_zero (range_checks b ++ local_checks b)
-    (pass_append (range_checks b) (local_checks b) (bounds_pass b (all_bounds v)) (y, (d, tt)))
+    checks_routed b
+    ∙ ap₂ result_and (bounds_ranges b (all_bounds v))
+    (ap first_of (offset_local b (offset_of f.offset)).0 ∙ pass_ok (local_checks b) (y, (d, tt)))
 
 all_pair : {f : Fields} {a : ℕ} → Valid f a → build_pair (all_of f a) ≡ packed_pair (word_of f) a
 unfolding build_pair
@@ -193,12 +195,12 @@ all_pair {f} {a} v =
       offset = r i;
     })
 
-valid_builds : {f : Fields} {a : ℕ} → Valid f a → build_of (all_of f a) ≡ accepted_build (packed_pair (word_of f) a)
+valid_builds : {f : Fields} {a : ℕ} → Valid f a → build_of (all_of f a) ≡ Ok (packed_pair (word_of f) a)
 unfolding build_of
-valid_builds v = ap₂ build_answer (all_number v) (all_pair v)
+valid_builds v = ap₂ (λ (c : Result Unit Refusal) (s : Timestamp). result_and c (Ok s)) (all_checks v) (all_pair v)
 
 -- what the check rebuilds of valid fields is built into their pair
-pub rebuilt_builds : {f : Fields} {a : ℕ} → Valid f a → build_of (rebuilt f a) ≡ accepted_build (packed_pair (word_of f) a)
+pub rebuilt_builds : {f : Fields} {a : ℕ} → Valid f a → build_of (rebuilt f a) ≡ Ok (packed_pair (word_of f) a)
 rebuilt_builds v = ap build_of (rebuilt_all v) ∙ valid_builds v
 
 -- for the code: the check by its parts, and that the fields it hands on are staged

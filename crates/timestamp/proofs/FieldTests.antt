@@ -1,10 +1,11 @@
 -- The tests of a word's fields, one after the other, decide whether they are valid, and so what the packed check answers.
 -- Assumes nothing.
-use mathlib.Core.Path.{◌≡◌, subst}
+use mathlib.Core.Path.{◌≡◌, ap, subst}
 use mathlib.Core.Bool.{Bool, false, ◌&&◌, ◌||◌}
 use Prim.Native.Nat.{ℕ, ◌%◌, ◌^◌, ◌≤◌, ◌<◌}
 use lib.Dec.{eqb, leb, ltb}
-use borrow.Author.Tests.{eqb-true, eq-eqb, ne_eqb}
+use Rattle.std.specs.Result.{is_ok}
+use Rattle.std.proofs.lemmas.Bool.{false_from_ne_true}
 use Rattle.ion.specs.Calendar.Dates.{is_date, IsDate}
 use Rattle.ion.specs.Pair.Word.{fields_of}
 use Rattle.ion.specs.Pair.Pair.{word_in}
@@ -17,7 +18,7 @@ use Rattle.ion.specs.declared.Timestamp.{Timestamp}
 use Rattle.fraction.proofs.Scales.{scale_pos}
 use Rattle.calendar.proofs.Dates.{is_date_lem, date_is}
 use Rattle.places.proofs.Decides.{Decides, le_decides, lt_decides, eq_decides, ◌and◌, below_decides}
-use Rattle.timestamp.proofs.Accepts.{check_gives, check_zero}
+use Rattle.timestamp.proofs.Accepts.{check_gives, check_accepts}
 
 -- ---- the fields
 
@@ -122,15 +123,15 @@ valid_by f a b e = subst (λ (b : Bool). Decides b (Valid f a)) e (valid_decides
 
 -- a word of 64 bits whose low four are 0
 pub accepted_decides : (s : Timestamp) → word_in s < 2 ^ 64 → word_in s % 16 ≡ 0
-    → Decides (eqb (check_of s).number 0) (Valid (fields_of (word_in s)) s.attoseconds)
+    → Decides (is_ok (check_of s)) (Valid (fields_of (word_in s)) s.attoseconds)
 accepted_decides s h z = (
-  λ t. (check_gives s (eqb-true (check_of s).number 0 t)).fields,
-  λ v. eq-eqb (check_of s).number 0 (check_zero s (record { fields = v; reserved = z; fits = h })),
+  λ t. (check_gives s t).fields,
+  λ v. ap is_ok (check_accepts s (record { fields = v; reserved = z; fits = h })),
 )
 
 -- else it is refused
-pub reserved_refused : (s : Timestamp) → (word_in s % 16 ≡ 0 → ⊥) → eqb (check_of s).number 0 ≡ false
-reserved_refused s n = ne_eqb (check_of s).number 0 (λ e. n (check_gives s e).reserved)
+pub reserved_refused : (s : Timestamp) → (word_in s % 16 ≡ 0 → ⊥) → is_ok (check_of s) ≡ false
+reserved_refused s n = false_from_ne_true (is_ok (check_of s)) (λ e. n (check_gives s e).reserved)
 
 -- ---- lists of laws, for the code
 

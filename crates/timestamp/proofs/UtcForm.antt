@@ -3,7 +3,8 @@ use mathlib.Core.Path.{◌≡◌, refl, sym, ap, ◌∙◌}
 use Prim.Native.Nat.{ℕ, ◌≤◌, ◌<◌}
 use native.Mathlib.Omega.{arith}
 use lib.IntN.{ℤ, neg_ℤ, nat_abs}
-use Rattle.integers.proofs.Signs.{size_neg}
+use Rattle.std.specs.Prelude.{Option, None, Some}
+use Rattle.integers.proofs.Parts.{size_neg}
 use Rattle.ion.specs.Calendar.Shift.{IsDateTime}
 use Rattle.ion.specs.Pair.Offset.{WithinDay, raw_of, offset_of}
 use Rattle.ion.specs.Pair.Word.{InRange}
@@ -11,12 +12,11 @@ use Rattle.ion.specs.Calls.Accepted.{Valid, time_in}
 use Rattle.ion.specs.Calls.Utc.{utc_by, utc_fields}
 use Rattle.ion.specs.declared.Fields.{Fields}
 use Rattle.ion.specs.declared.offset.RawOffset.{RawOffset}
-use Rattle.ion.specs.declared.offset.Offset.{Offset}
-use Rattle.ion.specs.declared.offset.Offset.TheVariants.{Unknown, Known}
+use Rattle.ion.specs.declared.offset.OffsetMinutes.{OffsetMinutes}
 use Rattle.ion.proofs.Offsets.{back_and_raw}
 use Rattle.calendar.proofs.Shifts.{shifted_is, shifted_year}
 use Rattle.builder.proofs.Times.{fields_in_range}
-use Rattle.timestamp.proofs.Accepts.{check_gives, check_refuses}
+use Rattle.timestamp.proofs.Accepts.{check_gives}
 use Rattle.timestamp.proofs.Valid.{valid_time, valid_offset}
 
 -- the opposite of less than a day is less than a day
@@ -32,8 +32,8 @@ pub record IsUtc (f g : Fields) : Type 0 where
   pub digits : g.digits ≡ f.digits
   pub offset : g.offset.0 ≡ 0
 
-moved : {f : Fields} {a : ℕ} (o : Offset) → offset_of f.offset ≡ o → Valid f a → WithinDay o → IsUtc f (utc_by o f)
-moved {f} Unknown e v w =
+moved : {f : Fields} {a : ℕ} (o : Option OffsetMinutes) → offset_of f.offset ≡ o → Valid f a → WithinDay o → IsUtc f (utc_by o f)
+moved {f} None e v w =
     record {
       time = valid_time v;
       year = omega (arith, v.to_year);
@@ -42,7 +42,7 @@ moved {f} Unknown e v w =
       digits = refl;
       offset = ap (λ (r : RawOffset). r.0) (sym (back_and_raw f.offset v.offset) ∙ ap raw_of e);
     }
-moved {f} (Known m) e v w =
+moved {f} (Some m) e v w =
     let n = negated_within m.0 w in
     let p = valid_time v in
     record {
@@ -65,4 +65,4 @@ utc_in_range {f} v =
     (omega (arith, u.digits, v.digits)) (omega (arith, u.offset))
 
 -- for the code
-pub ruleset utc_form = (check_refuses, check_gives, valid_time, valid_offset, utc_in_range)
+pub ruleset utc_form = (check_gives, valid_time, valid_offset, utc_in_range)

@@ -2,11 +2,12 @@
 use mathlib.Core.Path.{◌≡◌, sym, ap, subst, ◌∙◌}
 use Prim.Native.Nat.{ℕ, ◌<◌}
 use native.Mathlib.Omega.{arith}
+use Rattle.std.specs.Prelude.{Ok}
 use Rattle.ion.specs.Calendar.Shift.{IsDateTime}
 use Rattle.ion.specs.Pair.Offset.{WithinDay, raw_of, offset_of}
 use Rattle.ion.specs.Pair.Word.{InRange, word_of, fields_of}
 use Rattle.ion.specs.Pair.Pair.{word_in, packed_pair}
-use Rattle.ion.specs.Calls.Build.{precision_number, to_offset, given_time, local_time, packed_of, build_number, build_pair}
+use Rattle.ion.specs.Calls.Build.{precision_number, to_offset, given_time, local_time, packed_of, build_checks, build_pair}
 use Rattle.ion.specs.Calls.Accepted.{Staged, Valid, Accepted, time_in}
 use Rattle.ion.specs.declared.DateTime.{DateTime}
 use Rattle.ion.specs.declared.Fields.{Fields}
@@ -24,7 +25,7 @@ use Rattle.builder.proofs.Times.{fields_in_range, build_local}
 unmoved : (b : BuilderFields) → Staged b → precision_number b.precision < 3 → local_time b b.offset ≡ given_time b
 unmoved b s k = ap (local_time b) (s.offset k)
 
-build_valid : (b : BuilderFields) → Staged b → build_number b ≡ 0
+build_valid : (b : BuilderFields) → Staged b → build_checks b ≡ Ok tt
     → Valid (packed_of b (local_time b b.offset) (to_offset b.offset)) b.attoseconds
 build_valid b s e =
     let p = build_local b e in
@@ -71,7 +72,7 @@ valid_accepted {f} {a} v =
     let r = valid_in_range v in
     record { fields = subst (λ (g : Fields). Valid g a) (sym (unpack_pack f r)) v; reserved = word_low f r; fits = word_lt f r }
 
-pub build_accepted : (b : BuilderFields) → Staged b → build_number b ≡ 0 → Accepted (build_pair b)
+pub build_accepted : (b : BuilderFields) → Staged b → build_checks b ≡ Ok tt → Accepted (build_pair b)
 unfolding build_pair
 build_accepted b s e = valid_accepted (build_valid b s e)
 

@@ -4,10 +4,11 @@ ghost use Rattle.std.specs.Prelude.{◌≡◌, true, ◌&&◌, ◌||◌, ◌+◌
 ghost use Rattle.std.specs.Int.Bits.{bit_and};
 ghost use Rattle.ion.specs.Pair.Word.{fields_of};
 ghost use Rattle.ion.specs.Pair.Fraction.{scale};
-ghost use Rattle.ion.specs.Calls.Check.{check_number};
+ghost use Rattle.std.specs.Result.{is_ok};
+ghost use Rattle.ion.specs.Calls.Check.{check_of};
 ghost use Rattle.ion.specs.Calls.Accepted.{Valid};
 
-use ion::{Date, Fields, MAX_ATTOSECONDS, Timestamp};
+use ion::{Fields, MAX_ATTOSECONDS, Timestamp};
 use packed::{
     HOUR_MASK, HOUR_SHIFT, MINUTE_MASK, MINUTE_SHIFT, OFFSET_MASK, OFFSET_SHIFT, PRECISION_MASK,
     PRECISION_SHIFT, RESERVED_BITS, SECOND_MASK, SECOND_SHIFT, SUBSECOND_PRECISION_MASK,
@@ -65,7 +66,7 @@ fn in_bounds(w: u64) -> bool
         & none_beyond(w, OTHER_MASKS, OTHER_SPARES, OTHER_BITS_ABOVE)
 }
 
-// Whether each field that the precision does not have has its first value.
+// Whether each field that the precision, a number, does not have has its first value. Tests here are joined by `&`, with no branch.
 fn has_first_values(f: Fields) -> bool
     ensures { result ≡ ((leb 1 f.precision || eqb f.month 1)
         && (leb 2 f.precision || eqb f.day 1)
@@ -75,11 +76,9 @@ fn has_first_values(f: Fields) -> bool
     if 4 <= f.precision {
         return true;
     }
-    let offset = f.offset;
-    let raw = offset.bits();
     ((1 <= f.precision) | (f.month == 1))
         & ((2 <= f.precision) | (f.day == 1))
-        & ((3 <= f.precision) | ((f.hour == 0) & (f.minute == 0) & (raw == 0)))
+        & ((3 <= f.precision) | ((f.hour == 0) & (f.minute == 0) & (f.offset.bits() == 0)))
         & ((f.second == 0) & (f.digits == 0))
 }
 
@@ -114,25 +113,19 @@ fn is_valid(w: u64, attoseconds: u64) -> bool
     if MAX_ATTOSECONDS <= attoseconds {
         return false;
     }
-    let date = Date {
-        year: f.year,
-        month: f.month,
-        day: f.day,
-    };
-    if !calendar::is_date(date) {
+    if !calendar::is_date(f.time().date()) {
         return false;
     }
     is_multiple(attoseconds, f.digits)
 }
 
-// Whether the packed check answers 0.
+// Whether the packed check answers Ok.
 #[tactic(auto, using(crate::proofs::FieldTests::decided))]
 pub fn is_accepted(s: Timestamp) -> bool
-    ensures { result ≡ eqb (check_number s) 0 }
+    ensures { result ≡ is_ok (check_of s) }
 {
-    let word = s.packed_fields;
-    if word % RESERVED != 0 {
+    if s.packed_fields % RESERVED != 0 {
         return false;
     }
-    is_valid(word, s.attoseconds)
+    is_valid(s.packed_fields, s.attoseconds)
 }

@@ -6,5 +6,5 @@ mod checking;
 mod utc;
 
 pub use accepted::is_accepted;
-pub use checking::{check, check_number, try_from_bits};
+pub use checking::{check, try_from_bits};
 pub use utc::{shifted_fields, to_utc, utc_fields};

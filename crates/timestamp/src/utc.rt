@@ -6,34 +6,31 @@ ghost use Rattle.ion.specs.Calls.Accepted.{time_in};
 ghost use Rattle.ion.specs.Calls.Utc.{with_time, utc_fields, utc_of};
 
 use crate::checking::check;
-use ion::offset::{Offset, OffsetMinutes, RawOffset};
-use ion::{Built, DateTime, Fields, Timestamp, offset};
+use ion::offset::{OffsetMinutes, RawOffset, offset_of, raw_of};
+use ion::{DateTime, Fields, Refusal, Timestamp};
 
 // ---- for the crates above that hold fields which are known to be valid
 
 // The fields with their date and time moved by minutes, and with another offset.
 pub fn shifted_fields(f: Fields, m: OffsetMinutes, raw: RawOffset) -> Fields
-    requires { IsDateTime (time_in f) × (f.year ≤ 10000) × WithinDay (Offset.Known m) }
+    requires { IsDateTime (time_in f) × (f.year ≤ 10000) × WithinDay (Some m) }
     ensures { result ≡ with_time f (shifted (time_in f) m.0) raw }
 {
-    let given = DateTime {
-        year: f.year,
-        month: f.month,
-        day: f.day,
-        hour: f.hour,
-        minute: f.minute,
-    };
-    let t = calendar::add_offset_to_utc(given, m);
+    let DateTime {
+        year,
+        month,
+        day,
+        hour,
+        minute,
+    } = calendar::add_offset_to_utc(f.time(), m);
     Fields {
-        year: t.year,
-        month: t.month,
-        day: t.day,
-        hour: t.hour,
-        minute: t.minute,
-        second: f.second,
-        precision: f.precision,
-        digits: f.digits,
+        year,
+        month,
+        day,
+        hour,
+        minute,
         offset: raw,
+        ..f
     }
 }
 
@@ -43,30 +40,21 @@ pub fn utc_fields(f: Fields) -> Fields
     requires { IsDateTime (time_in f) × (f.year ≤ 9999) × WithinDay (offset_of f.offset) }
     ensures { result ≡ utc_fields f }
 {
-    let raw = f.offset;
-    let o = offset::offset_of(raw);
-    match o {
-        Offset::Unknown => f,
-        Offset::Known(m) => shifted_fields(f, m.negated(), offset::raw_of(Offset::Unknown)),
+    match offset_of(f.offset) {
+        None => f,
+        Some(m) => shifted_fields(f, m.negated(), raw_of(None)),
     }
 }
 
 // The same moment with an unknown offset. Its year may be 0 or 10000, and then the packed check refuses it.
 #[tactic(auto, using(crate::proofs::UtcForm::utc_form), unfolding(ion::specs::Calls::Utc::utc_of))]
-pub fn to_utc(s: Timestamp) -> Built
+pub fn to_utc(s: Timestamp) -> Result<Timestamp, Refusal>
     ensures { result ≡ utc_of s }
 {
-    let c = check(s);
-    let n = c.number;
-    if n != 0 {
-        return c;
-    }
+    check(s)?;
     let f = utc_fields(packed::unpack(s.packed_fields));
-    Built {
-        number: 0,
-        stamp: Timestamp {
-            packed_fields: packed::pack(f),
-            attoseconds: s.attoseconds,
-        },
-    }
+    Ok(Timestamp {
+        packed_fields: packed::pack(f),
+        ..s
+    })
 }

@@ -2,6 +2,7 @@
 use mathlib.Core.Path.{◌≡◌, refl, sym, ap, ap₂, ◌∙◌}
 use mathlib.Core.Bool.{true}
 use mathlib.Core.List.{List, [], ◌∷◌, ◌++◌, append_assoc, append-nil}
+use Rattle.std.specs.Prelude.{Option}
 use Prim.Native.Nat.{ℕ, zero, suc, ◌+◌, ◌/◌, ◌^◌, ◌≤◌, ◌<◌}
 use native.Mathlib.Numerals.{add-one}
 use native.Mathlib.Omega.{arith}
@@ -12,7 +13,7 @@ use mir.Syntax.{w64}
 use mir.Val.{to_z, of_z}
 use Rattle.std.proofs.lemmas.Int.{to_z-of_z, to_z_pos}
 use Rattle.integers.proofs.Parts.{minus_fits}
-use Rattle.ion.specs.Numbers.VarUInt.{varuint, group_count}
+use Rattle.ion.specs.Numbers.VarUInt.{varuint}
 use Rattle.ion.specs.Numbers.VarInt.{signed, varint}
 use Rattle.ion.specs.Numbers.Int.{int}
 use Rattle.ion.specs.Numbers.Decimal.{decimal_bytes}
@@ -25,11 +26,10 @@ use Rattle.ion.specs.Calls.Accepted.{Accepted}
 use Rattle.ion.specs.Calls.Utc.{utc_fields}
 use Rattle.ion.specs.Value.Encode.{offset_bytes, varuints, field_list, field_count, fraction_bytes, body_from, body_of}
 use Rattle.ion.specs.declared.Fields.{Fields}
-use Rattle.ion.specs.declared.offset.Offset.{Offset}
+use Rattle.ion.specs.declared.offset.OffsetMinutes.{OffsetMinutes}
 use Rattle.ion.specs.declared.Timestamp.{Timestamp}
 use Rattle.output.proofs.Runs.{run_none, run_two, Room, room_next}
 use Rattle.fraction.proofs.Scales.{scale_pos}
-use Rattle.binary.proofs.VarUInts.{length_varuint}
 use Rattle.binary.proofs.Decimals.{decimal_fraction}
 use Rattle.timestamp.proofs.UtcForm.{utc_is}
 
@@ -54,28 +54,25 @@ varuints_more l i h =
     ∙ varuints_append (take i l) (v ∷ [])
     ∙ ap (λ (t : List ℕ). varuints (take i l) ++ t) (append-nil (varuint v)))
 
--- where n fields have room, so has each of them after those before it
-varuints_room : (l : List ℕ) (i n : ℕ) → i < n → n ≤ length l
-    → length (varuints (take i l)) + group_count (get_or l i 0) ≤ length (varuints (take n l))
+-- where all have room, so has each after those before it
+varuints_room : (l : List ℕ) (i : ℕ) → i < length l → length (varuints (take i l)) + length (varuint (get_or l i 0)) ≤ length (varuints l)
 unfolding varuints
-varuints_room [] i n h k = absurd (omega arith)
-varuints_room (v ∷ l) i zero h k = absurd (omega arith)
-varuints_room (v ∷ l) zero (suc n) h k = omega (arith, length-append (varuint v) (varuints (take n l)), length_varuint v)
-varuints_room (v ∷ l) (suc i) (suc n) h k =
-    let after = varuints_room l i n (omega arith) (omega arith) in
-    omega (arith, length-append (varuint v) (varuints (take i l)), length-append (varuint v) (varuints (take n l)))
+varuints_room [] i h = absurd (omega arith)
+varuints_room (v ∷ l) zero h = omega (arith, length-append (varuint v) (varuints l))
+varuints_room (v ∷ l) (suc i) h =
+    let after = varuints_room l i (omega arith) in
+    omega (arith, length-append (varuint v) (varuints (take i l)), length-append (varuint v) (varuints l))
 
--- after the first i of n fields that have room: the next has room, and is put behind them
-module _ (l : List ℕ) (i n : ℕ) {d e : List ℕ} {at r : ℕ} (p : Run d at (varuints (take i l)) e r) where
-  pub field_room : i < n → n ≤ length l → at + length (varuints (take n l)) ≤ length d → r + group_count (get_or l i 0) ≤ length d
-  field_room h k m = omega (arith, p.next, varuints_room l i n h k, m)
+-- after the first i of fields that have room: the next has room, and is put behind them
+module _ (l : List ℕ) (i : ℕ) {d e : List ℕ} {at r : ℕ} (p : Run d at (varuints (take i l)) e r) where
+  pub field_room : i < length l → at + length (varuints l) ≤ length d → r + length (varuint (get_or l i 0)) ≤ length d
+  field_room h m = omega (arith, p.next, varuints_room l i h, m)
 
-  pub field_put : {f : List ℕ} {q : ℕ} → i < n → n ≤ length l → at + length (varuints (take n l)) ≤ length d
-      → Run e r (varuint (get_or l i 0)) f q → Run d at (varuints (take (i + 1) l)) f q
-  field_put {q = q} h k m w =
-      let v = get_or l i 0 in
-      let end : q ≤ length d = omega (arith, w.next, field_room h k m, length_varuint v) in
-      rw (varuints_more l i (omega arith)) (run_two p w end)
+  pub field_put : {f : List ℕ} {q : ℕ} → i < length l → at + length (varuints l) ≤ length d → Run e r (varuint (get_or l i 0)) f q
+      → Run d at (varuints (take (i + 1) l)) f q
+  field_put {q = q} h m w =
+      let end : q ≤ length d = omega (arith, w.next, field_room h m) in
+      rw (varuints_more l i h) (run_two p w end)
 
 -- ---- the fraction, whose exponent is minus its number of digits
 
@@ -116,16 +113,16 @@ body_parts s p e k =
     rw (w, e) (ap₂ (λ (n d : ℕ). o ++ (varuints (take (field_count n) l) ++ fraction_bytes d c)) i.precision i.digits)
 
 -- have room one after another
-pub body_room : {s : Timestamp} {d : List ℕ} {at : ℕ} → Accepted s × (at + length (body_of s) ≤ length d)
-    → {f u : Fields} {o : Offset} {n : ℕ} → f ≡ fields_of (word_in s) → u ≡ utc_fields f → o ≡ offset_of f.offset
+pub body_room : {s : Timestamp} {d : List ℕ} {at : ℕ} → Accepted s → at + length (body_of s) ≤ length d
+    → {f u : Fields} {o : Option OffsetMinutes} {n : ℕ} → f ≡ fields_of (word_in s) → u ≡ utc_fields f → o ≡ offset_of f.offset
     → n ≡ field_count f.precision
     → Room d at (offset_bytes o) (varuints (take n (field_list u)) ++ fraction_bytes f.digits (s.attoseconds / scale f.digits)) (body_of s)
-body_room {s} p e k g m = record { is = rw (g, m) (body_parts s p.0 e k); room = p.1 }
+body_room {s} p h e k g m = record { is = rw (g, m) (body_parts s p e k); room = h }
 
 -- of three parts the last two, after the first
 pub room_after : {d e s t u v : List ℕ} {at r : ℕ} → Room d at s (t ++ u) v → Run d at s e r → length e ≡ length d → Room e r t u (t ++ u)
 room_after r g h = record { is = refl; room = omega (arith, room_next r g) }
 
--- ---- a list of laws, for the code
+-- ---- lists of laws, for the code
 
 pub ruleset fractions = (scale_pos, run_none, no_fraction, fraction_cast)

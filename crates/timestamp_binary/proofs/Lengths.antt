@@ -22,23 +22,24 @@ use Rattle.ion.specs.Calls.Utc.{utc_fields}
 use Rattle.ion.specs.Value.Encode.{offset_bytes, varuints, field_list, field_count, fraction_bytes, body_from, body_of, header, value_of}
 use Rattle.ion.specs.declared.Fields.{Fields}
 use Rattle.ion.specs.declared.Timestamp.{Timestamp}
-use Rattle.ion.specs.declared.offset.Offset.{Offset}
-use Rattle.ion.specs.declared.offset.Offset.TheVariants.{Unknown, Known}
+use Rattle.ion.specs.declared.offset.OffsetMinutes.{OffsetMinutes}
+use Rattle.std.specs.Prelude.{Option, None, Some}
 use Rattle.output.proofs.Runs.{run_front}
 use Rattle.binary.proofs.VarUInts.{count_shortest, count_some, length_varuint}
 use Rattle.binary.proofs.VarInts.{length_signed, signed_shortest, signed_some}
 use Rattle.binary.proofs.Ints.{length_int, int_least}
 use Rattle.calendar.proofs.Dates.{month_of_lem, day_of_lem}
 use Rattle.timestamp.proofs.Valid.{valid_offset}
+use Rattle.timestamp.proofs.Accepts.{check_gives}
 use Rattle.timestamp.proofs.UtcForm.{utc_is}
 use Rattle.timestamp_binary.proofs.BodyRuns.{fraction_bytes_lem}
 
 -- ---- the most: an offset of 2 bytes, a year of 2, a byte for each other field, an exponent of 1 and a coefficient of 8
 
-offset_length : (o : Offset) → WithinDay o → length (offset_bytes o) ≤ 2
+offset_length : (o : Option OffsetMinutes) → WithinDay o → length (offset_bytes o) ≤ 2
 unfolding offset_bytes varint
-offset_length Unknown h = omega (arith, length_signed true 0, signed_shortest 1 0 (omega arith))
-offset_length (Known m) h =
+offset_length None h = omega (arith, length_signed true 0, signed_shortest 1 0 (omega arith))
+offset_length (Some m) h =
     let n = nat_abs m.0 in
     omega (arith, length_signed (is_negative m.0) n, signed_shortest 1 n (omega arith))
 
@@ -113,10 +114,10 @@ value_length s p =
 
 -- ---- the least: a byte each of a header, an offset and a year
 
-offset_some : (o : Offset) → 1 ≤ length (offset_bytes o)
+offset_some : (o : Option OffsetMinutes) → 1 ≤ length (offset_bytes o)
 unfolding offset_bytes varint
-offset_some Unknown = omega (arith, length_signed true 0, signed_some 0)
-offset_some (Known m) = omega (arith, length_signed (is_negative m.0) (nat_abs m.0), signed_some (nat_abs m.0))
+offset_some None = omega (arith, length_signed true 0, signed_some 0)
+offset_some (Some m) = omega (arith, length_signed (is_negative m.0) (nat_abs m.0), signed_some (nat_abs m.0))
 
 year_some : (p y : ℕ) (l : List ℕ) → 1 ≤ length (varuints (take (field_count p) (y ∷ l)))
 unfolding varuints field_count
@@ -130,7 +131,7 @@ year_some p y l = go (leb 3 p)
     go true = at (p + 2) (omega arith)
     go false = at (p + 1) (omega arith)
 
-body_some : (o : Offset) (u : Fields) (c : ℕ) → 2 ≤ length (body_from o u c)
+body_some : (o : Option OffsetMinutes) (u : Fields) (c : ℕ) → 2 ≤ length (body_from o u c)
 unfolding body_from
 body_some o u c =
     let l = varuints (take (field_count u.precision) (field_list u)) in
@@ -161,6 +162,8 @@ value_some s =
 
 -- ---- lists of laws, for the code
 
-pub ruleset size = (length_signed)
+-- of an offset
+pub ruleset own = (length_signed)
 
-pub ruleset body = (body_length, run_front)
+-- of a body
+pub ruleset all = (check_gives, body_length, run_front)

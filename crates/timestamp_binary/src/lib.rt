@@ -1,9 +1,10 @@
 // Values of timestamps in Ion binary, written.
 #![tactic(auto)]
 
-mod encoder;
+mod body;
+mod value;
 
-pub use encoder::{
-    LENGTH_FOLLOWS, MAX_BODY_LENGTH, MAX_INLINE_LENGTH, MAX_TIMESTAMP_LENGTH, Span,
-    TYPE_DESCRIPTOR, encode_timestamp, encode_timestamp_value, gather_value,
+pub use body::{MAX_BODY_LENGTH, MAX_TIMESTAMP_LENGTH, encode_timestamp};
+pub use value::{
+    LENGTH_FOLLOWS, MAX_INLINE_LENGTH, TYPE_DESCRIPTOR, encode_timestamp_value, gather_value,
 };

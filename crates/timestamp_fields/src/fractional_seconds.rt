@@ -2,82 +2,54 @@
 ghost use Rattle.std.specs.Prelude.{◌≡◌, ◌-◌, ◌≤◌};
 ghost use Rattle.ion.specs.Calls.Reads.{attoseconds_field_of, units_of, nanoseconds_of, microseconds_of, milliseconds_of, decimal_field_of};
 
-use ion::{Attoseconds, Decimal, DecimalField, Field, Timestamp};
-use timestamp::check_number;
+use crate::field;
+use ion::{Decimal, Refusal, Timestamp};
+use timestamp::check;
 
-#[tactic(auto, unfolding(ion::specs::Calls::Reads::attoseconds_field_of))]
-pub fn attoseconds(s: Timestamp) -> Attoseconds
+pub fn attoseconds(s: Timestamp) -> Result<u64, Refusal>
     ensures { result ≡ attoseconds_field_of s }
 {
-    let n = check_number(s);
-    if n != 0 {
-        return Attoseconds {
-            number: n,
-            value: 0,
-        };
-    }
-    Attoseconds {
-        number: 0,
-        value: s.attoseconds,
-    }
+    field(s, s.attoseconds)
 }
 
-// Whole units of the last of a number of digits; beside the number of a refusal there are 0 attoseconds, and so 0 units.
-#[tactic(auto, using(crate::proofs::Cuts::fit), unfolding(ion::specs::Calls::Reads::field_of, ion::specs::Calls::Reads::attoseconds_field_of))]
-fn units(s: Timestamp, digits: u64) -> Field
+// Whole units of the last of a number of digits.
+#[tactic(auto, using(crate::proofs::Cuts::fit), unfolding(ion::specs::Calls::Reads::field_of))]
+fn units(s: Timestamp, digits: u64) -> Result<u32, Refusal>
     requires { digits ≤ 9 }
     ensures { result ≡ units_of (18 - digits) s }
 {
-    let whole = attoseconds(s);
-    let unit = fraction::scale(digits);
-    Field {
-        number: whole.number,
-        value: (whole.value / unit) as u32,
-    }
+    check(s)?;
+    Ok((s.attoseconds / fraction::scale(digits)) as u32)
 }
 
-pub fn nanoseconds(s: Timestamp) -> Field
+pub fn nanoseconds(s: Timestamp) -> Result<u32, Refusal>
     ensures { result ≡ nanoseconds_of s }
 {
     units(s, 9)
 }
 
-pub fn microseconds(s: Timestamp) -> Field
+pub fn microseconds(s: Timestamp) -> Result<u32, Refusal>
     ensures { result ≡ microseconds_of s }
 {
     units(s, 6)
 }
 
-pub fn milliseconds(s: Timestamp) -> Field
+pub fn milliseconds(s: Timestamp) -> Result<u32, Refusal>
     ensures { result ≡ milliseconds_of s }
 {
     units(s, 3)
 }
 
 // The fraction's digits as the coefficient, and minus their number as the exponent.
-#[tactic(auto, using(crate::proofs::Cuts::fit), unfolding(ion::specs::Calls::Reads::decimal_field_of, ion::specs::Pair::Word::fields_of))]
-pub fn fractional_seconds_as_decimal(s: Timestamp) -> DecimalField
+#[tactic(auto, using(crate::proofs::Cuts::fit), unfolding(ion::specs::Pair::Word::fields_of))]
+pub fn fractional_seconds_as_decimal(s: Timestamp) -> Result<Decimal, Refusal>
     ensures { result ≡ decimal_field_of s }
 {
-    let n = check_number(s);
-    if n != 0 {
-        return DecimalField {
-            number: n,
-            value: Decimal {
-                negative: false,
-                coefficient: 0,
-                exponent: 0,
-            },
-        };
-    }
     let digits = packed::digits(s.packed_fields);
-    let unit = fraction::scale(digits as u64);
-    DecimalField {
-        number: 0,
-        value: Decimal {
-            negative: false,
-            coefficient: s.attoseconds / unit,
-            exponent: -(digits as i64),
-        },
-    }
+    let decimal = Decimal {
+        negative: false,
+        coefficient: s.attoseconds / fraction::scale(digits as u64),
+        exponent: -(digits as i64),
+    };
+    field(s, decimal)
 }

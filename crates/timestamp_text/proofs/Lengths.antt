@@ -17,9 +17,10 @@ use Rattle.ion.specs.Pair.Word.{InRange}
 use Rattle.ion.specs.Calls.Accepted.{Valid}
 use Rattle.ion.specs.Text.Format.{marked, fraction_text, clock_text, minutes_text, offset_text, fields_text}
 use Rattle.ion.specs.declared.Fields.{Fields}
-use Rattle.ion.specs.declared.offset.Offset.{Offset}
-use Rattle.ion.specs.declared.offset.Offset.TheVariants.{Unknown, Known}
+use Rattle.std.specs.Prelude.{Option, None, Some}
+use Rattle.ion.specs.declared.offset.OffsetMinutes.{OffsetMinutes}
 use Rattle.ion.proofs.Offsets.{back_within}
+use Rattle.output.proofs.Stores.{put_refused}
 use Rattle.output.proofs.Runs.{run_none, run_two}
 use Rattle.text.proofs.Digits.{length_exact, count_most}
 use Rattle.fraction.proofs.Scales.{scale_pos, units_lt}
@@ -78,10 +79,10 @@ length_minutes (pos zero) h = refl
 length_minutes (pos (suc n)) h = omega (arith, length_clock (suc n) h)
 length_minutes (negsuc n) h = omega (arith, length_clock (suc n) h)
 
-pub length_offset : (o : Offset) → WithinDay o → length (offset_text o) ≡ 6
+pub length_offset : (o : Option OffsetMinutes) → WithinDay o → length (offset_text o) ≡ 6
 unfolding offset_text
-length_offset Unknown h = refl
-length_offset (Known m) h = length_minutes m.0 h
+length_offset None h = refl
+length_offset (Some m) h = length_minutes m.0 h
 
 -- ---- up to each field
 
@@ -167,3 +168,5 @@ pub ruleset texts = (
 pub ruleset fractions = (run_none, scale_pos, units_lt, count_most)
 
 pub ruleset offsets = (back_within, length_offset)
+
+pub ruleset whole = (length_text, put_refused)

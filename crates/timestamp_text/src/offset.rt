@@ -6,7 +6,7 @@ ghost use Rattle.ion.specs.Text.Format.{clock_text, minutes_text, offset_text};
 
 use crate::parts;
 use ion::offset;
-use ion::offset::{Offset, OffsetMinutes, RawOffset};
+use ion::offset::{OffsetMinutes, RawOffset};
 use text::text_formatter;
 
 // A sign, hours and minutes.
@@ -33,8 +33,7 @@ fn put_minutes(buf: &mut [u8], at: usize, m: OffsetMinutes) -> usize
     if 0 < z {
         return put_clock(buf, at, b'+', z as u32);
     }
-    output::copy_in(buf, at, &offset::ZERO_TEXT);
-    at + 6
+    output::put(buf, at, offset::ZERO_TEXT.as_slice())
 }
 
 #[tactic(auto, using(crate::proofs::Lengths::offsets), unfolding(ion::specs::Text::Format::offset_text))]
@@ -42,12 +41,8 @@ pub(crate) fn format_offset(buf: &mut [u8], at: usize, raw: RawOffset) -> usize
     requires { (at + 6 ≤ length buf.old) × (raw.0 < 2880) }
     ensures { Run buf.old at (offset_text (offset_of raw)) buf.new result }
 {
-    let o = offset::offset_of(raw);
-    match o {
-        Offset::Unknown => {
-            output::copy_in(buf, at, &offset::UNKNOWN_TEXT);
-            at + 6
-        }
-        Offset::Known(m) => put_minutes(buf, at, m),
+    match offset::offset_of(raw) {
+        None => output::put(buf, at, offset::UNKNOWN_TEXT.as_slice()),
+        Some(m) => put_minutes(buf, at, m),
     }
 }

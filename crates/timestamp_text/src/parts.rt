@@ -1,4 +1,5 @@
-// Parts of a text, each with the index after it: a byte, a mark and two digits, a fraction; then all up to a field.
+// Parts of a text, each with the index after it: a byte, a mark and two digits, a fraction; then all up to a field. What a field
+// has to be stays a fact in contracts: a type of such fields would be made here alone, of a word's.
 ghost use Rattle.std.specs.Prelude.{[], ◌∷◌, ◌+◌, ◌^◌, ◌≤◌, ◌<◌, length};
 ghost use Rattle.ion.specs.Calls.Accepted.{Valid};
 ghost use Rattle.ion.specs.Calls.Output.{Run};

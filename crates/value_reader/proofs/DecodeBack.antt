@@ -1,8 +1,9 @@
--- A body is read back as its parts. Assumes nothing.
+-- A body is read back as its parts. Assumes None.
 use mathlib.Core.Path.{◌≡◌, refl, sym, ap, ap₂, ◌∙◌}
 use mathlib.Core.Bool.{Bool, true, cond}
 use mathlib.Core.List.{List, [], ◌∷◌, ◌++◌, append_assoc}
 use Prim.Native.Nat.{ℕ, zero, suc, ◌^◌, ◌≤◌, ◌<◌}
+use Rattle.std.specs.Prelude.{Option, None, Some}
 use native.Mathlib.Omega.{arith}
 use borrow.Author.Tests.{lt-ltb}
 use lib.Dec.{lit≤, lit<}
@@ -17,13 +18,12 @@ use Rattle.ion.specs.Pair.Offset.{WithinDay, offset_minutes, raw_offset}
 use Rattle.ion.specs.Calls.Accepted.{time_in}
 use Rattle.ion.specs.Calls.Utc.{with_time}
 use Rattle.ion.specs.Value.Encode.{offset_bytes, varuints, field_list, field_count, fraction_bytes, body_from}
-use Rattle.ion.specs.Value.Decode.{found, nothing, signed_offset, offset_from, decode_offset, one_more, field_from, decode_fields}
+use Rattle.ion.specs.Value.Decode.{signed_offset, offset_from, decode_offset, one_more, field_from, decode_fields}
 use Rattle.ion.specs.Value.Decode.{fraction_from, decode_fraction, filled, precision_with, is_field_count, fields_from}
 use Rattle.ion.specs.Value.Decode.{after_fields, after_offset, from_offset, decode_body}
 use Rattle.ion.specs.declared.Fields.{Fields}
 use Rattle.ion.specs.declared.Body.{Body}
-use Rattle.ion.specs.declared.offset.Offset.{Offset}
-use Rattle.ion.specs.declared.offset.Offset.TheVariants.{Unknown, Known}
+use Rattle.ion.specs.declared.offset.OffsetMinutes.{OffsetMinutes}
 use Rattle.binary.proofs.VarUInts.{read_varuint, length_varuint, count_some}
 use Rattle.binary.proofs.VarInts.{read_signed, read_varint, length_signed, signed_some}
 use Rattle.binary.proofs.Ints.{read_int_lem}
@@ -32,19 +32,20 @@ use Rattle.value_reader.specs.BodyParts.{Encodable}
 
 -- ---- the offset
 
-signed_minutes : (z : ℤ) → signed_offset (is_negative z) (nat_abs z) ≡ Known (offset_minutes z)
+signed_minutes : (z : ℤ) → signed_offset (is_negative z) (nat_abs z) ≡ Some (offset_minutes z)
 signed_minutes (pos n) = refl
 signed_minutes (negsuc n) = refl
 
-offset_back : (o : Offset) (r : List ℕ) → WithinDay o → decode_offset (offset_bytes o ++ r) ≡ found (o, r)
+offset_back : (o : Option OffsetMinutes) (r : List ℕ) → WithinDay o → decode_offset (offset_bytes o ++ r) ≡ Some (o, r)
 unfolding decode_offset offset_bytes varint
-offset_back Unknown r h =
+offset_back None r h =
     ap (offset_from (signed true 0 ++ r)) (read_signed 1439 true 0 r (lit≤ tt))
-    ∙ ap (λ (t : List ℕ). found (Unknown, t)) (drop-append_seam (signed true 0) r)
-offset_back (Known m) r h =
+    ∙ ap (λ (t : List ℕ). Some (None, t)) (drop-append_seam (signed true 0) r)
+offset_back (Some m) r h =
     let z = m.0 in
+    let after = drop-append_seam (signed (is_negative z) (nat_abs z)) r in
     ap (offset_from (varint z ++ r)) (read_varint 1439 z r (omega arith))
-    ∙ ap₂ (λ (o : Offset) (t : List ℕ). found (o, t)) (signed_minutes z) (drop-append_seam (signed (is_negative z) (nat_abs z)) r)
+    ∙ ap₂ (λ (o : Option OffsetMinutes) (t : List ℕ). Some (o, t)) (signed_minutes z) after
 
 -- ---- the fields
 
@@ -55,7 +56,7 @@ field_next n [] h = absurd (omega arith)
 field_next n (b ∷ t) h = refl
 
 fields_back : (n : ℕ) (l r : List ℕ) → Below 16384 l → length l ≤ n → (length l < n → r ≡ [])
-    → decode_fields n (varuints l ++ r) ≡ found (l, r)
+    → decode_fields n (varuints l ++ r) ≡ Some (l, r)
 unfolding varuints decode_fields
 fields_back zero [] r h k z = refl
 fields_back zero (v ∷ l) r h k z = absurd (omega arith)
@@ -77,9 +78,9 @@ unfolding decode_fraction
 fraction_next [] h = absurd (omega arith)
 fraction_next (b ∷ t) h = refl
 
-fraction_back : (d c : ℕ) → d ≤ 63 → c < 2 ^ 64 → (d ≡ 0 → c ≡ 0) → decode_fraction (fraction_bytes d c) ≡ found (d, c)
+fraction_back : (d c : ℕ) → d ≤ 63 → c < 2 ^ 64 → (d ≡ 0 → c ≡ 0) → decode_fraction (fraction_bytes d c) ≡ Some (d, c)
 unfolding decode_fraction fraction_bytes
-fraction_back zero c h l z = ap (λ (x : ℕ). found (0, x)) (sym (z refl))
+fraction_back zero c h l z = ap (λ (x : ℕ). Some (0, x)) (sym (z refl))
 fraction_back (suc d) c h l z =
     let e = signed true (suc d) in
     let s = e ++ int c in
@@ -134,7 +135,7 @@ module _ (x : Body) (p : Encodable x) where
   restored_at (suc (suc (suc (suc (suc k))))) e = absurd (omega (arith, p.precise))
 
   -- a body is read back as its parts
-  pub body_back : decode_body (body_from x.offset x.utc x.coefficient) ≡ found x
+  pub body_back : decode_body (body_from x.offset x.utc x.coefficient) ≡ Some x
   unfolding decode_body body_from
   body_back =
       let o = x.offset in
@@ -147,6 +148,6 @@ module _ (x : Body) (p : Encodable x) where
       let fields = fields_are u (filled l) (precision_with (length l)) b.all b.number.precision p.no_raw in
       ap from_offset (offset_back o (varuints l ++ t) p.within_day)
       ∙ ap (after_offset o) (fields_back 6 l t small b.number.most (λ q. no_fraction u.digits c (p.no_digits (b.number.fewer q))))
-      ∙ ap (λ (q : Bool). cond q (after_fields o l (decode_fraction t)) nothing) b.counted
+      ∙ ap (λ (q : Bool). cond q (after_fields o l (decode_fraction t)) None) b.counted
       ∙ ap (after_fields o l) (fraction_back u.digits c p.few_digits p.coefficient p.no_coefficient)
-      ∙ ap (λ (w : Fields). found (record { offset = o; utc = w; coefficient = c })) fields
+      ∙ ap (λ (w : Fields). Some (record { offset = o; utc = w; coefficient = c })) fields

@@ -7,4 +7,3 @@ pub mod Readings
 pub mod FieldSteps
 pub mod PartsTested
 pub mod PartsReadings
-pub mod ReadSteps

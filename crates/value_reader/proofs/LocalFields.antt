@@ -1,9 +1,9 @@
 -- Parts of a body that are acceptable are those of the fields and attoseconds that they give, which are valid. Assumes nothing.
 use mathlib.Core.Path.{◌≡◌, refl, sym, ap, ap₂, ◌∙◌}
-use mathlib.Core.Bool.{false}
 use Prim.Native.Nat.{ℕ, ◌*◌, ◌/◌, ◌^◌, ◌≤◌, ◌<◌, min}
 use native.Mathlib.Nat.{mul-mod_left, mul-div_cancel}
 use native.Mathlib.Omega.{arith}
+use Rattle.std.specs.Prelude.{Option, None, Some}
 use Rattle.ion.specs.Pair.Offset.{WithinDay, raw_offset, offset_of}
 use Rattle.ion.specs.Calendar.Shift.{IsDateTime}
 use Rattle.ion.specs.Pair.Word.{InRange}
@@ -13,8 +13,7 @@ use Rattle.ion.specs.Calls.Utc.{with_time, utc_by, utc_fields}
 use Rattle.ion.specs.Value.Decode.{local_by}
 use Rattle.ion.specs.declared.Fields.{Fields}
 use Rattle.ion.specs.declared.Body.{Body}
-use Rattle.ion.specs.declared.offset.Offset.{Offset}
-use Rattle.ion.specs.declared.offset.Offset.TheVariants.{Unknown, Known}
+use Rattle.ion.specs.declared.offset.OffsetMinutes.{OffsetMinutes}
 use Rattle.ion.proofs.Offsets.{raw_and_back, raw_lt}
 use Rattle.calendar.proofs.Shifts.{shifted_is, shift_back}
 use Rattle.calendar.proofs.FirstDay.{moved_room}
@@ -22,11 +21,10 @@ use Rattle.fraction.proofs.Capped.{scaled_low}
 use Rattle.fraction.proofs.Scales.{scale_pos}
 use Rattle.timestamp.proofs.Valid.{valid_in_range}
 use Rattle.value_reader.specs.BodyParts.{body_for, Encodable, UtcInBounds, Acceptable}
-use Rattle.value_reader.proofs.ReadSteps.{outside, outside_false}
 
 -- ---- local fields f of an offset o and UTC fields u
 
-record IsLocal (o : Offset) (u f : Fields) : Type 0 where
+record IsLocal (o : Option OffsetMinutes) (u f : Fields) : Type 0 where
   time : IsDateTime (time_in f)
   second : f.second ≡ u.second
   precision : f.precision ≡ u.precision
@@ -35,9 +33,10 @@ record IsLocal (o : Offset) (u f : Fields) : Type 0 where
   offset : offset_of f.offset ≡ o
   utc : utc_by o f ≡ u
 
-local_is : (o : Offset) (u : Fields) → WithinDay o → IsDateTime (time_in u) → u.offset ≡ raw_offset 0 → 1 ≤ (local_by o u).year
+local_is : (o : Option OffsetMinutes) (u : Fields) → WithinDay o → IsDateTime (time_in u) → u.offset ≡ raw_offset 0
+    → 1 ≤ (local_by o u).year
     → IsLocal o u (local_by o u)
-local_is Unknown u w t e y =
+local_is None u w t e y =
     record {
       time = t;
       second = refl;
@@ -47,15 +46,15 @@ local_is Unknown u w t e y =
       offset = refl;
       utc = ap (with_time u (time_in u)) (sym e);
     }
-local_is (Known m) u w t e y =
+local_is (Some m) u w t e y =
     let room = moved_room (time_in u) m.0 t w y in
     record {
       time = shifted_is (time_in u) m.0 t;
       second = refl;
       precision = refl;
       digits = refl;
-      raw = raw_lt (Known m) w;
-      offset = raw_and_back (Known m) w;
+      raw = raw_lt (Some m) w;
+      offset = raw_and_back (Some m) w;
       utc = ap₂ (with_time u) (shift_back (time_in u) m.0 t room) (sym e);
     }
 
@@ -76,8 +75,8 @@ module _ (x : Body) (p : Encodable x) (q : Acceptable x) where
       scaled_low x.coefficient x.utc.digits (rw e b.coefficient)
 
   -- without an hour there is no known offset, and the local fields are the UTC ones
-  coarse : (local_by x.offset x.utc).precision < 3 → local_by x.offset x.utc ≡ local_by Unknown x.utc
-  coarse h = ap (λ (o : Offset). local_by o x.utc) (q.bounds.known_late (omega (arith, local.precision)))
+  coarse : (local_by x.offset x.utc).precision < 3 → local_by x.offset x.utc ≡ local_by None x.utc
+  coarse h = ap (λ (o : Option OffsetMinutes). local_by o x.utc) (q.bounds.known_late (omega (arith, local.precision)))
 
   pub local_valid : Valid (local_by x.offset x.utc) (attoseconds_from x)
   local_valid =
@@ -118,12 +117,11 @@ module _ (x : Body) (p : Encodable x) (q : Acceptable x) where
 -- ---- as the code has them: the local fields f of parts whose UTC fields and local year passed their tests
 
 module _ (x : Body) (p : Encodable x) (b : UtcInBounds x) {f : Fields} (e : f ≡ local_by x.offset x.utc)
-    (y : outside 1 9999 f.year ≡ false) where
+    (l : 1 ≤ f.year) (h : f.year ≤ 9999) where
   pub parts_acceptable : Acceptable x
   parts_acceptable =
-      let h = outside_false 1 9999 f.year y in
       let k = ap (λ (g : Fields). g.year) e in
-      record { bounds = b; from_year = omega (arith, h, k); to_year = omega (arith, h, k) }
+      record { bounds = b; from_year = omega (arith, k); to_year = omega (arith, k) }
 
   parts_valid : Valid f (attoseconds_from x)
   parts_valid = rw e (local_valid x p parts_acceptable)

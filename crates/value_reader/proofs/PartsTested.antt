@@ -1,16 +1,16 @@
 -- The reader's tests of a body's parts, one after the other, decide whether its UTC fields are in bounds. Assumes nothing.
-use mathlib.Core.Path.{◌≡◌, refl, subst}
+use mathlib.Core.Path.{◌≡◌, refl}
 use mathlib.Core.Bool.{Bool, true, ◌&&◌}
 use Prim.Native.Nat.{ℕ, ◌^◌, ◌≤◌, ◌<◌, min}
 use native.Mathlib.Decide.{dec_le}
 use native.Mathlib.Omega.{arith}
+use Rattle.std.specs.Prelude.{Option, None, Some}
 use borrow.Author.Tests.{leb-true, le-leb}
 use lib.Dec.{leb, ltb}
 use Rattle.ion.specs.Calendar.Dates.{IsDate, is_date}
 use Rattle.ion.specs.Calls.Accepted.{date_in}
 use Rattle.ion.specs.declared.Body.{Body}
-use Rattle.ion.specs.declared.offset.Offset.{Offset}
-use Rattle.ion.specs.declared.offset.Offset.TheVariants.{Unknown, Known}
+use Rattle.ion.specs.declared.offset.OffsetMinutes.{OffsetMinutes}
 use Rattle.calendar.proofs.Dates.{is_date_lem, date_is}
 use Rattle.places.proofs.Decides.{Decides, le_decides, lt_decides, then_decides, ◌and◌}
 use Rattle.value_reader.specs.BodyParts.{UtcInBounds, offset_fits}
@@ -24,13 +24,13 @@ parts_test x =
 
 -- ---- each with the fact that it decides
 
-offset_decides : (p : ℕ) (o : Offset) → Decides (offset_fits p o) (p < 3 → o ≡ Unknown)
-offset_decides p Unknown = (λ t h. refl, λ q. refl)
-offset_decides p (Known m) = (λ t h. absurd (omega (arith, leb-true 3 p t)), λ q. go q (dec_le 3 p))
+offset_decides : (p : ℕ) (o : Option OffsetMinutes) → Decides (offset_fits p o) (p < 3 → o ≡ None)
+offset_decides p None = (λ t h. refl, λ q. refl)
+offset_decides p (Some m) = (λ t h. absurd (omega (arith, leb-true 3 p t)), λ q. go q (dec_le 3 p))
   where
-    go : (p < 3 → Known m ≡ Unknown) → Dec (3 ≤ p) → leb 3 p ≡ true
+    go : (p < 3 → Some m ≡ None) → Dec (3 ≤ p) → leb 3 p ≡ true
     go q (yes h) = le-leb 3 p h
-    go q (no h) = absurd (let e : Known m ≡ Unknown = q (omega arith) in let z : ◌≡◌ {A = ℕ} 0 1 = cc in omega arith)
+    go q (no h) = absurd (let e : Some m ≡ None = q (omega arith) in cc)
 
 coefficient_decides : (c d : ℕ) → d ≤ 18 → Decides (ltb c (10 ^ min d 18)) (c < 10 ^ d)
 coefficient_decides c d h = let e : min d 18 ≡ d = omega arith in rw e (lt_decides c (10 ^ d))
@@ -40,7 +40,7 @@ coefficient_decides c d h = let e : min d 18 ≡ d = omega arith in rw e (lt_dec
 abbrev All : Body → Type 0
 All x =
     (((((((x.utc.year ≤ 10000) × (x.utc.hour ≤ 23)) × (x.utc.minute ≤ 59)) × (x.utc.second ≤ 59)) × (x.utc.digits ≤ 18))
-    × (x.utc.precision < 3 → x.offset ≡ Unknown))
+    × (x.utc.precision < 3 → x.offset ≡ None))
     × (x.coefficient < 10 ^ x.utc.digits))
     × IsDate (date_in x.utc)
 
@@ -69,9 +69,9 @@ all_bounds x (((((((y, h), m), s), n), o), c), d) =
       known_late = o;
     }
 
-parts_decides : (x : Body) → Decides (parts_test x) (UtcInBounds x)
+pub parts_decides : (x : Body) → Decides (parts_test x) (UtcInBounds x)
 parts_decides x = let d = all_decides x in (λ t. all_bounds x (d.0 t), λ v. d.1 (bounds_all x v))
 
--- so does what equals all tests
-pub bounds_by : (x : Body) (b : Bool) → parts_test x ≡ b → Decides b (UtcInBounds x)
-bounds_by x b e = subst (λ (b : Bool). Decides b (UtcInBounds x)) e (parts_decides x)
+-- ---- a list of laws, for the code
+
+pub ruleset bounds = (parts_decides)

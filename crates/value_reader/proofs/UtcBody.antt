@@ -4,6 +4,7 @@ use mathlib.Core.List.{[], ◌∷◌}
 use Prim.Native.Nat.{ℕ, ◌*◌, ◌/◌, ◌^◌, ◌<◌}
 use native.Mathlib.Nat.{div-add-mod', div-le_self}
 use native.Mathlib.Omega.{arith}
+use Rattle.std.specs.Prelude.{Option, None, Some}
 use lib.Dec.{lit≤}
 use lib.IntN.{neg_ℤ}
 use Rattle.places.proofs.Below.{below_cons}
@@ -13,8 +14,7 @@ use Rattle.ion.specs.Calls.Accepted.{Valid, time_in}
 use Rattle.ion.specs.Calls.Utc.{with_time, utc_by, utc_fields}
 use Rattle.ion.specs.Value.Decode.{local_by}
 use Rattle.ion.specs.declared.Fields.{Fields}
-use Rattle.ion.specs.declared.offset.Offset.{Offset}
-use Rattle.ion.specs.declared.offset.Offset.TheVariants.{Unknown, Known}
+use Rattle.ion.specs.declared.offset.OffsetMinutes.{OffsetMinutes}
 use Rattle.ion.proofs.Offsets.{back_and_raw}
 use Rattle.calendar.proofs.Shifts.{shift_forth, shift_room}
 use Rattle.fraction.proofs.Scales.{units_lt}
@@ -38,14 +38,14 @@ module _ (f : Fields) (a : ℕ) (v : Valid f a) where
   -- ---- the fields
 
   -- without an hour there is no known offset, and the UTC fields are the local ones
-  unknown : f.precision < 3 → offset_of f.offset ≡ Unknown
+  unknown : f.precision < 3 → offset_of f.offset ≡ None
   unknown h = ap (λ (n : ℕ). offset_of (raw_offset n)) (v.no_offset h)
 
   coarse : f.precision < 3 → utc_fields f ≡ f
   unfolding utc_fields
-  coarse h = ap (λ (o : Offset). utc_by o f) (unknown h)
+  coarse h = ap (λ (o : Option OffsetMinutes). utc_by o f) (unknown h)
 
-  raw_again : {o : Offset} → offset_of f.offset ≡ o → raw_of o ≡ f.offset
+  raw_again : {o : Option OffsetMinutes} → offset_of f.offset ≡ o → raw_of o ≡ f.offset
   raw_again e = ap raw_of (sym e) ∙ back_and_raw f.offset v.offset
 
   -- the parts give the fields back
@@ -53,9 +53,9 @@ module _ (f : Fields) (a : ℕ) (v : Valid f a) where
   unfolding utc_fields
   fields_again = go (offset_of f.offset) refl (valid_offset v)
     where
-      go : (o : Offset) → offset_of f.offset ≡ o → WithinDay o → local_by o (utc_by o f) ≡ f
-      go Unknown e w = ap (with_time f (time_in f)) (raw_again e)
-      go (Known m) e w =
+      go : (o : Option OffsetMinutes) → offset_of f.offset ≡ o → WithinDay o → local_by o (utc_by o f) ≡ f
+      go None e w = ap (with_time f (time_in f)) (raw_again e)
+      go (Some m) e w =
           let room = shift_room (time_in f) (neg_ℤ m.0) v.from_year (negated_within m.0 w) in
           ap₂ (with_time f) (shift_forth (time_in f) m.0 (valid_time v) room) (raw_again e)
 

@@ -1,19 +1,18 @@
 -- The parts of a body: those of a timestamp, those that their bytes give back, and those that the reader accepts. Assumes nothing.
-use Rattle.std.specs.Prelude.{◌≡◌, Bool, true, ◌⊎◌, ℕ, ◌/◌, ◌^◌, ◌≤◌, ◌<◌, leb, get_or}
+use Rattle.std.specs.Prelude.{◌≡◌, Bool, true, ◌⊎◌, ℕ, ◌/◌, ◌^◌, ◌≤◌, ◌<◌, leb, get_or, Option, None, Some, Result, Ok, Err}
 use Rattle.ion.specs.Calendar.Shift.{IsDateTime}
 use Rattle.ion.specs.Pair.Offset.{WithinDay, raw_offset, offset_of}
 use Rattle.ion.specs.Pair.Fraction.{scale}
-use Rattle.ion.specs.Calls.Refusal.{body_refused}
 use Rattle.ion.specs.Calls.Accepted.{time_in}
 use Rattle.ion.specs.Calls.Utc.{utc_fields}
 use Rattle.ion.specs.Value.Encode.{field_list}
 use Rattle.ion.specs.Value.Decode.{local_by, pair_from}
-use Rattle.ion.specs.Value.ReadValue.{refused_reading, accepted_reading}
 use Rattle.ion.specs.declared.Fields.{Fields}
 use Rattle.ion.specs.declared.Body.{Body}
-use Rattle.ion.specs.declared.Read.{Read}
-use Rattle.ion.specs.declared.offset.Offset.{Offset}
-use Rattle.ion.specs.declared.offset.Offset.TheVariants.{Unknown, Known}
+use Rattle.ion.specs.declared.Timestamp.{Timestamp}
+use Rattle.ion.specs.declared.offset.OffsetMinutes.{OffsetMinutes}
+use Rattle.ion.specs.declared.refusal.Refusal.{Refusal}
+use Rattle.ion.specs.declared.refusal.Refusal.TheVariants as refusal
 
 -- the parts of the body of a timestamp's fields and attoseconds
 abbrev pub body_for : Fields → ℕ → Body
@@ -42,7 +41,7 @@ pub record UtcInBounds (x : Body) : Type 0 where
   pub second : x.utc.second ≤ 59
   pub digits : x.utc.digits ≤ 18
   pub coefficient : x.coefficient < 10 ^ x.utc.digits
-  pub known_late : x.utc.precision < 3 → x.offset ≡ Unknown
+  pub known_late : x.utc.precision < 3 → x.offset ≡ None
 
 -- an accepted timestamp's: these, and a local year from 1 to 9999
 pub record Acceptable (x : Body) : Type 0 where
@@ -51,10 +50,10 @@ pub record Acceptable (x : Body) : Type 0 where
   pub to_year : (local_by x.offset x.utc).year ≤ 9999
 
 -- whether an offset may stand beside a precision
-abbrev pub offset_fits : ℕ → Offset → Bool
-offset_fits p Unknown = true
-offset_fits p (Known m) = leb 3 p
+abbrev pub offset_fits : ℕ → Option OffsetMinutes → Bool
+offset_fits p None = true
+offset_fits p (Some m) = leb 3 p
 
--- the pair of acceptable parts with the number of bytes taken, and a refusal of any others
-abbrev pub PartsRead : Body → ℕ → Read → Type 0
-PartsRead x n r = (Acceptable x × (r ≡ accepted_reading (pair_from x) n)) ⊎ ((Acceptable x → ⊥) × (r ≡ refused_reading body_refused))
+-- the pair of acceptable parts, and a refusal of any others
+abbrev pub PartsRead : Body → Result Timestamp Refusal → Type 0
+PartsRead x r = (Acceptable x × (r ≡ Ok (pair_from x))) ⊎ ((Acceptable x → ⊥) × (r ≡ Err refusal.Body))

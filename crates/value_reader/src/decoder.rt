@@ -1,128 +1,75 @@
 // The parts of a body, each in its shortest form.
-ghost use Rattle.std.specs.Prelude.{◌≡◌, false, ◌≤◌, length, drop};
-ghost use Rattle.ion.specs.Numbers.Int.{read_int};
-ghost use Rattle.ion.specs.Value.Decode.{signed_offset, coefficient_from, decode_fields, decode_fraction, first_values};
+ghost use Rattle.std.specs.Prelude.{◌≡◌, None, ◌≤◌, drop, MatchOption};
+ghost use Rattle.ion.specs.Value.Decode.{signed_offset, decode_fields, decode_fraction};
 ghost use Rattle.ion.specs.Value.Decode.{fields_from, precision_with, after_offset, decode_body};
-ghost use Rattle.value_reader.specs.Parsed.{FieldsAre, fraction_in, body_in};
+ghost use Rattle.value_reader.specs.Parsed.{FieldsAre};
 
 use binary::{int, var_int, var_uint};
-use ion::offset::{Offset, OffsetMinutes};
-use ion::{Body, Fields, IntRead, VarIntRead, VarUIntRead, offset};
+use ion::offset::OffsetMinutes;
+use ion::{Body, Fields, SignedMagnitude, offset};
 
-// The parts of a body, or that the bytes are none.
-#[derive(Clone, Copy)]
-pub(crate) enum BodyRead {
-    Parts(Body),
-    Nothing,
-}
-
-// Up to six fields, with the first values of those that are not there, how many there are, and the index after them; or
-// that something there is no field.
+// Up to six fields, with the first values of those that are not there, how many there are, and the index after them. An array and a
+// count, as there is no heap.
 #[derive(Clone, Copy)]
 struct FieldsRead {
-    found: bool,
     values: [u32; 6],
     count: usize,
     next: usize,
-}
-
-// The digits of a fraction and its coefficient, or that the bytes are no fraction.
-#[derive(Clone, Copy)]
-enum FractionRead {
-    Parts(u32, u64),
-    Nothing,
 }
 
 // The fields that a body does not have.
 const FIRST_VALUES: [u32; 6] = [0, 1, 1, 0, 0, 0];
 
 // Negative zero is unknown.
-fn signed_offset(negative: bool, magnitude: u64) -> Offset
-    requires { magnitude ≤ 1439 }
-    ensures { result ≡ signed_offset negative magnitude }
+fn signed_offset(m: SignedMagnitude) -> Option<OffsetMinutes>
+    requires { m.magnitude ≤ 1439 }
+    ensures { result ≡ signed_offset m.negative m.magnitude }
 {
-    if !negative {
-        return Offset::Known(OffsetMinutes::new(magnitude as i32));
-    }
-    if magnitude == 0 {
-        return Offset::Unknown;
-    }
-    Offset::Known(OffsetMinutes::new(-(magnitude as i32)))
-}
-
-// The answer where something is no field.
-fn no_fields() -> FieldsRead
-    ensures { (result.found ≡ false) × (result.values ≡ first_values) × (result.count ≡ 0) }
-{
-    FieldsRead {
-        found: false,
-        values: FIRST_VALUES,
-        count: 0,
-        next: 0,
+    match (m.negative, m.magnitude as i32) {
+        (false, minutes) => Some(OffsetMinutes::new(minutes)),
+        (true, 0) => None,
+        (true, minutes) => Some(OffsetMinutes::new(-minutes)),
     }
 }
 
 // Up to six fields from index `at` on.
 #[tactic(auto, using(crate::proofs::FieldSteps::fields))]
-fn read_fields(s: &[u8], at: usize) -> FieldsRead
-    ensures { FieldsAre s.now (decode_fields 6 (drop at s.now)) result }
+fn read_fields(s: &[u8], at: usize) -> Option<FieldsRead>
+    ensures { MatchOption result (decode_fields 6 (drop at s.now) ≡ None) (FieldsAre s.now (decode_fields 6 (drop at s.now))) }
 {
     let mut values = FIRST_VALUES;
-    let mut count: usize = 0;
+    let mut count = 0;
     let mut next = at;
-    while (count < 6) & (next < s.len()) {
-        match var_uint::read_u64(s, next, 16383) {
-            VarUIntRead::Value(v, n) => {
-                values[count] = v as u32;
-                next += n;
-                count += 1;
-            }
-            VarUIntRead::Cut => {
-                return no_fields();
-            }
-            VarUIntRead::Bad => {
-                return no_fields();
-            }
+    for value in values.iter_mut() {
+        if next >= s.len() {
+            break;
         }
+        let (x, n) = var_uint::read_u64(s, next, 16383).ok()?;
+        *value = x as u32;
+        count += 1;
+        next += n;
     }
-    FieldsRead {
-        found: true,
-        values: values,
-        count: count,
-        next: next,
-    }
+    Some(FieldsRead {
+        values,
+        count,
+        next,
+    })
 }
 
-// The coefficient that the bytes from index `at` on are, all of them.
-fn read_coefficient(s: &[u8], at: usize, digits: u32) -> FractionRead
-    requires { at ≤ length s.now }
-    ensures { fraction_in result ≡ coefficient_from digits (read_int (drop at s.now)) }
-{
-    match int::read_u64(&s[at..]) {
-        IntRead::Value(c) => FractionRead::Parts(digits, c),
-        IntRead::Bad => FractionRead::Nothing,
-    }
-}
-
-// The fraction that the bytes from index `at` on are, all of them.
+// The fraction that the bytes from index `at` on are, all of them: its digits and its coefficient.
 #[tactic(auto, using(crate::proofs::FieldSteps::fractions))]
-fn read_fraction(s: &[u8], at: usize) -> FractionRead
-    ensures { fraction_in result ≡ decode_fraction (drop at s.now) }
+fn read_fraction(s: &[u8], at: usize) -> Option<(u32, u64)>
+    ensures { result ≡ decode_fraction (drop at s.now) }
 {
     if s.len() <= at {
-        return FractionRead::Parts(0, 0);
+        return Some((0, 0));
     }
-    match var_int::read_i64(s, at, 63) {
-        VarIntRead::Value(negative, magnitude, n) => {
-            if negative & (0 < magnitude) {
-                read_coefficient(s, at + n, magnitude as u32)
-            } else {
-                FractionRead::Nothing
-            }
-        }
-        VarIntRead::Cut => FractionRead::Nothing,
-        VarIntRead::Bad => FractionRead::Nothing,
+    let (exponent, n) = var_int::read_i64(s, at, 63).ok()?;
+    if !exponent.negative || exponent.magnitude == 0 {
+        return None;
     }
+    let coefficient = int::read_u64(&s[at + n..])?;
+    Some((exponent.magnitude as u32, coefficient))
 }
 
 // The precision with a number of fields.
@@ -132,12 +79,10 @@ fn precision_with(count: usize) -> u32
     ensures { result ≡ precision_with count }
 {
     if 3 < count {
-        return (count - 2) as u32;
+        (count - 2) as u32
+    } else {
+        count.saturating_sub(1) as u32
     }
-    if count == 0 {
-        return 0;
-    }
-    (count - 1) as u32
 }
 
 // UTC fields, of which `count` are there.
@@ -145,50 +90,42 @@ fn fields_from(values: [u32; 6], count: usize, digits: u32) -> Fields
     requires { count ≤ 6 }
     ensures { result ≡ fields_from values (precision_with count) digits }
 {
+    let [year, month, day, hour, minute, second] = values;
     Fields {
-        year: values[0],
-        month: values[1],
-        day: values[2],
-        hour: values[3],
-        minute: values[4],
-        second: values[5],
+        year,
+        month,
+        day,
+        hour,
+        minute,
+        second,
         precision: precision_with(count),
-        digits: digits,
-        offset: offset::raw_of(Offset::Unknown),
+        digits,
+        offset: offset::raw_of(None),
     }
 }
 
 // The parts of a body that has fields and a fraction from index `at` on.
 #[tactic(auto, using(crate::proofs::FieldSteps::bodies))]
-fn after_offset(s: &[u8], at: usize, offset: Offset) -> BodyRead
-    ensures { body_in result ≡ after_offset offset (decode_fields 6 (drop at s.now)) }
+fn after_offset(s: &[u8], at: usize, offset: Option<OffsetMinutes>) -> Option<Body>
+    ensures { result ≡ after_offset offset (decode_fields 6 (drop at s.now)) }
 {
-    let f = read_fields(s, at);
-    let values = f.values;
-    let count = f.count;
-    if !(f.found & (count != 0) & (count != 4)) {
-        return BodyRead::Nothing;
+    let fields = read_fields(s, at)?;
+    if fields.count == 0 || fields.count == 4 {
+        return None;
     }
-    match read_fraction(s, f.next) {
-        FractionRead::Parts(digits, coefficient) => BodyRead::Parts(Body {
-            offset: offset,
-            utc: fields_from(values, count, digits),
-            coefficient: coefficient,
-        }),
-        FractionRead::Nothing => BodyRead::Nothing,
-    }
+    let (digits, coefficient) = read_fraction(s, fields.next)?;
+    Some(Body {
+        offset,
+        utc: fields_from(fields.values, fields.count, digits),
+        coefficient,
+    })
 }
 
 // The parts of the body that `s` is, all of it.
 #[tactic(auto, using(crate::proofs::FieldSteps::parts))]
-pub(crate) fn decode_body(s: &[u8]) -> BodyRead
-    ensures { body_in result ≡ decode_body s.now }
+pub(crate) fn decode_body(s: &[u8]) -> Option<Body>
+    ensures { result ≡ decode_body s.now }
 {
-    match var_int::read_i64(s, 0, 1439) {
-        VarIntRead::Value(negative, magnitude, n) => {
-            after_offset(s, n, signed_offset(negative, magnitude))
-        }
-        VarIntRead::Cut => BodyRead::Nothing,
-        VarIntRead::Bad => BodyRead::Nothing,
-    }
+    let (minutes, n) = var_int::read_i64(s, 0, 1439).ok()?;
+    after_offset(s, n, signed_offset(minutes))
 }

@@ -63,7 +63,7 @@ pub record Valid (f : Fields) (a : ℕ) : Type 0 where
   pub no_second : f.precision < 4 → f.second ≡ 0
   pub no_digits : f.precision < 4 → f.digits ≡ 0
 
--- what the packed check's 0 means, field by field
+-- what it means that the packed check accepts, field by field
 pub record Accepted (s : Timestamp) : Type 0 where
   pub fields : Valid (fields_of (word_in s)) s.attoseconds
   pub reserved : word_in s % 2 ^ 4 ≡ 0

@@ -1,10 +1,12 @@
--- The answer of a call that makes a check first. Assumes nothing.
-use Rattle.std.specs.Prelude.{ℕ, cond, eqb}
+-- The answer of a call that first makes another. Assumes nothing.
+use Rattle.std.specs.Prelude.{Result, Ok, Err}
 
--- a where the check's number n is 0, else what a refusal with that number is
-abbrev pub answered : {A : Type 0} → ℕ → A → (ℕ → A) → A
-answered n a refused = cond (eqb n 0) a (refused n)
+-- what is made of the value, else the error: the `?` of the code
+abbrev pub and_then : {A B E : Type 0} → Result A E → (A → Result B E) → Result B E
+and_then (Ok a) make = make a
+and_then (Err e) make = Err e
 
--- the first of two checks' numbers that is not 0, or 0
-abbrev pub first_refusal : ℕ → ℕ → ℕ
-first_refusal m n = answered m n (λ m. m)
+-- a where a check passes, else b
+abbrev pub where_ok : {A E B : Type 0} → Result A E → B → B → B
+where_ok (Ok x) a b = a
+where_ok (Err e) a b = b

@@ -1,30 +1,29 @@
 -- The check of a packed pair. Assumes nothing.
-use Rattle.std.specs.Prelude.{ℕ, cond, ◌&&◌, eqb, leb, ltb}
-use Rattle.ion.specs.Calls.Refusal.{digits_refused, pair_refused}
+use Rattle.std.specs.Prelude.{ℕ, cond, ◌&&◌, eqb, leb, ltb, Option, None, Some, Result, Ok, Err}
 use Rattle.ion.specs.Pair.Offset.{offset_of}
 use Rattle.ion.specs.Pair.Word.{fields_of}
 use Rattle.ion.specs.Pair.Pair.{word_in, same_pair}
 use Rattle.ion.specs.Pair.Fraction.{cut_to}
-use Rattle.ion.specs.Calls.Build.{refused_build, build_of}
+use Rattle.ion.specs.Calls.Build.{build_of}
 use Rattle.ion.specs.declared.Fields.{Fields}
 use Rattle.ion.specs.declared.offset.RawOffset.{RawOffset}
-use Rattle.ion.specs.declared.offset.Offset.{Offset}
-use Rattle.ion.specs.declared.offset.Offset.TheVariants as offset
+use Rattle.ion.specs.declared.offset.OffsetMinutes.{OffsetMinutes}
 use Rattle.ion.specs.declared.TimestampPrecision.{TimestampPrecision}
 use Rattle.ion.specs.declared.TimestampPrecision.TheVariants.{Year, Month, Day, HourAndMinute, Second}
 use Rattle.ion.specs.declared.BuilderOffset.{BuilderOffset}
 use Rattle.ion.specs.declared.BuilderOffset.TheVariants.{Unknown, FromLocalFields}
 use Rattle.ion.specs.declared.BuilderFields.{BuilderFields}
 use Rattle.ion.specs.declared.Timestamp.{Timestamp}
-use Rattle.ion.specs.declared.Built.{Built}
+use Rattle.ion.specs.declared.refusal.Refusal.{Refusal}
+use Rattle.ion.specs.declared.refusal.Refusal.TheVariants as refusal
 
 -- 5 to 7 read as 4
 abbrev pub precision_of : ℕ → TimestampPrecision
 precision_of p = cond (eqb p 0) Year (cond (eqb p 1) Month (cond (eqb p 2) Day (cond (eqb p 3) HourAndMinute Second)))
 
-abbrev pub from_local : Offset → BuilderOffset
-from_local offset.Unknown = Unknown
-from_local (offset.Known m) = FromLocalFields m
+abbrev pub from_local : Option OffsetMinutes → BuilderOffset
+from_local None = Unknown
+from_local (Some m) = FromLocalFields m
 
 -- the offset only at precision 3 and finer
 abbrev pub offset_at : ℕ → RawOffset → BuilderOffset
@@ -55,14 +54,11 @@ rebuilt f a =
     }
 
 -- what was built, where it is the pair that came in
-abbrev pub same_as : Timestamp → Built → Built
-same_as s b = cond (eqb b.number 0) (cond (same_pair b.stamp s) b (refused_build pair_refused)) b
+abbrev pub same_as : Timestamp → Result Timestamp Refusal → Result Timestamp Refusal
+same_as s (Ok t) = cond (same_pair t s) (Ok t) (Err refusal.Pair)
+same_as s (Err r) = Err r
 
-unfoldable pub check_of : Timestamp → Built
+unfoldable pub check_of : Timestamp → Result Timestamp Refusal
 check_of s =
     let f = fields_of (word_in s) in
-    cond (ltb 18 f.digits) (refused_build digits_refused) (same_as s (build_of (rebuilt f s.attoseconds)))
-
--- the number alone
-abbrev pub check_number : Timestamp → ℕ
-check_number s = (check_of s).number
+    cond (ltb 18 f.digits) (Err refusal.Digits) (same_as s (build_of (rebuilt f s.attoseconds)))

@@ -1,53 +1,39 @@
 -- Order, equality and distance of two timestamps, the first checked before the second. Assumes nothing.
-use Rattle.std.specs.Prelude.{ℕ, ◌/◌, ◌%◌, ◌^◌, Bool, false, cond, eqb, ltb, ℤ, pos, negsuc, nat_abs, ◌-ℤ◌}
+use Rattle.std.specs.Prelude.{ℕ, ◌/◌, ◌%◌, ◌^◌, Bool, eqb, pos, nat_abs, ◌-ℤ◌, Result, Ok}
+use Rattle.std.specs.Result.{result_and}
+use Rattle.std.specs.Ordering.{nat_cmp, ordering_then}
+use Rattle.std.specs.declared.cmp.Ordering.{Ordering}
 use Rattle.ion.specs.Pair.Pair.{word_in, same_pair}
 use Rattle.ion.specs.Pair.Count.{count_of}
-use Rattle.ion.specs.Calls.Answered.{answered, first_refusal}
-use Rattle.ion.specs.Calls.Check.{check_number}
+use Rattle.ion.specs.Calls.Check.{check_of}
 use Rattle.ion.specs.declared.Timestamp.{Timestamp}
-use Rattle.ion.specs.declared.Ordered.{Ordered}
-use Rattle.ion.specs.declared.Compared.{Compared}
 use Rattle.ion.specs.declared.Distance.{Distance}
+use Rattle.ion.specs.declared.refusal.Refusal.{Refusal}
 
-abbrev pub check_both : Timestamp → Timestamp → ℕ
-check_both s t = first_refusal (check_number s) (check_number t)
+abbrev pub check_both : Timestamp → Timestamp → Result Timestamp Refusal
+check_both s t = result_and (check_of s) (check_of t)
 
--- ---- order: -1, 0 or 1
-
-abbrev pub order_of : ℕ → ℕ → ℤ
-order_of m n = cond (ltb m n) (negsuc 0) (cond (ltb n m) (pos 1) (pos 0))
+-- ---- order
 
 -- by the first numbers, then by the second
-abbrev pub order_of_pairs : ℕ → ℕ → ℕ → ℕ → ℤ
-order_of_pairs m a n b = cond (eqb m n) (order_of a b) (order_of m n)
+abbrev pub order_of_pairs : ℕ → ℕ → ℕ → ℕ → Ordering
+order_of_pairs m a n b = ordering_then (nat_cmp m n) (nat_cmp a b)
 
-abbrev pub ordered : ℤ → Ordered
-ordered z = record { number = 0; order = z }
-
-abbrev pub refused_order : ℕ → Ordered
-refused_order n = record { number = n; order = pos 0 }
-
-unfoldable pub cmp_of : Timestamp → Timestamp → Ordered
-cmp_of s t = answered (check_both s t) (ordered (order_of (count_of s) (count_of t))) refused_order
+unfoldable pub cmp_of : Timestamp → Timestamp → Result Ordering Refusal
+cmp_of s t = result_and (check_both s t) (Ok (nat_cmp (count_of s) (count_of t)))
 
 -- by packed word, then by attoseconds
-unfoldable pub ion_cmp_of : Timestamp → Timestamp → Ordered
-ion_cmp_of s t = answered (check_both s t) (ordered (order_of_pairs (word_in s) s.attoseconds (word_in t) t.attoseconds)) refused_order
+unfoldable pub ion_cmp_of : Timestamp → Timestamp → Result Ordering Refusal
+ion_cmp_of s t = result_and (check_both s t) (Ok (order_of_pairs (word_in s) s.attoseconds (word_in t) t.attoseconds))
 
 -- ---- equality
 
-abbrev pub compared : Bool → Compared
-compared b = record { number = 0; equal = b }
-
-abbrev pub refused_compared : ℕ → Compared
-refused_compared n = record { number = n; equal = false }
-
-unfoldable pub eq_of : Timestamp → Timestamp → Compared
-eq_of s t = answered (check_both s t) (compared (eqb (count_of s) (count_of t))) refused_compared
+unfoldable pub eq_of : Timestamp → Timestamp → Result Bool Refusal
+eq_of s t = result_and (check_both s t) (Ok (eqb (count_of s) (count_of t)))
 
 -- the pairs are the same
-unfoldable pub ion_eq_of : Timestamp → Timestamp → Compared
-ion_eq_of s t = answered (check_both s t) (compared (same_pair s t)) refused_compared
+unfoldable pub ion_eq_of : Timestamp → Timestamp → Result Bool Refusal
+ion_eq_of s t = result_and (check_both s t) (Ok (same_pair s t))
 
 -- ---- distance
 
@@ -55,16 +41,13 @@ ion_eq_of s t = answered (check_both s t) (compared (same_pair s t)) refused_com
 abbrev pub size_of_difference : ℕ → ℕ → ℕ
 size_of_difference m n = nat_abs (pos m -ℤ pos n)
 
--- a sign, and the size of the difference in attoseconds
-abbrev pub distant : ℤ → ℕ → Distance
-distant z size = record { number = 0; sign = z; seconds = size / 10 ^ 18; attoseconds = size % 10 ^ 18 }
-
-abbrev pub refused_distance : ℕ → Distance
-refused_distance n = record { number = n; sign = pos 0; seconds = 0; attoseconds = 0 }
+-- an order, and the size of the difference in attoseconds
+abbrev pub distant : Ordering → ℕ → Distance
+distant o size = record { order = o; seconds = size / 10 ^ 18; attoseconds = size % 10 ^ 18 }
 
 -- the distance of two counts
 abbrev pub distance_of_counts : ℕ → ℕ → Distance
-distance_of_counts m n = distant (order_of m n) (size_of_difference m n)
+distance_of_counts m n = distant (nat_cmp m n) (size_of_difference m n)
 
-unfoldable pub distance_of : Timestamp → Timestamp → Distance
-distance_of s t = answered (check_both s t) (distance_of_counts (count_of s) (count_of t)) refused_distance
+unfoldable pub distance_of : Timestamp → Timestamp → Result Distance Refusal
+distance_of s t = result_and (check_both s t) (Ok (distance_of_counts (count_of s) (count_of t)))

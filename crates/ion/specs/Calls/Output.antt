@@ -1,8 +1,9 @@
 -- What a writer leaves in a lent buffer, and what it answers. Assumes nothing.
-use Rattle.std.specs.Prelude.{ℕ, ◌+◌, ◌-◌, ◌≤◌, Bool, cond, List, ◌++◌, ◌≡◌, leb, length, take, drop}
-use Rattle.ion.specs.Calls.Refusal.{short_buffer}
-use Rattle.ion.specs.Calls.Answered.{answered}
-use Rattle.ion.specs.declared.Written.{Written}
+use Rattle.std.specs.Prelude.{ℕ, ◌+◌, ◌-◌, ◌≤◌, Bool, cond, List, ◌++◌, ◌≡◌, leb, length, take, drop, Result, Ok, Err}
+use Rattle.std.specs.Result.{result_and}
+use Rattle.ion.specs.Calls.Answered.{where_ok}
+use Rattle.ion.specs.declared.refusal.Refusal.{Refusal}
+use Rattle.ion.specs.declared.refusal.Refusal.TheVariants as refusal
 
 -- d with the bytes s from index at on
 abbrev pub over : List ℕ → ℕ → List ℕ → List ℕ
@@ -16,23 +17,20 @@ has_room d at s = leb (at + length s) (length d)
 unfoldable pub put : List ℕ → ℕ → List ℕ → List ℕ
 put d at s = cond (has_room d at s) (over d at s) d
 
-abbrev pub refused_writing : ℕ → Written
-refused_writing n = record { number = n; written = 0 }
-
--- the answer of a writer of n bytes from index at on of a buffer of size bytes
-unfoldable pub room_for : ℕ → ℕ → ℕ → Written
-room_for size at n = cond (leb (at + n) size) (record { number = 0; written = n }) (refused_writing short_buffer)
+-- the answer of a writer of n bytes from index at on of a buffer of size bytes: their number
+unfoldable pub room_for : ℕ → ℕ → ℕ → Result ℕ Refusal
+room_for size at n = cond (leb (at + n) size) (Ok n) (Err refusal.ShortBuffer)
 
 -- that of a writer of the bytes s
-abbrev pub wrote : List ℕ → ℕ → List ℕ → Written
+abbrev pub wrote : List ℕ → ℕ → List ℕ → Result ℕ Refusal
 wrote d at s = room_for (length d) at (length s)
 
--- the same of a writer that first makes a check, which gave the number n
-unfoldable pub put_after : ℕ → List ℕ → ℕ → List ℕ → List ℕ
-put_after n d at s = answered n (put d at s) (λ n. d)
+-- the same of a writer that first makes the check c
+unfoldable pub put_after : {A : Type 0} → Result A Refusal → List ℕ → ℕ → List ℕ → List ℕ
+put_after c d at s = where_ok c (put d at s) d
 
-unfoldable pub wrote_after : ℕ → List ℕ → ℕ → List ℕ → Written
-wrote_after n d at s = answered n (wrote d at s) refused_writing
+unfoldable pub wrote_after : {A : Type 0} → Result A Refusal → List ℕ → ℕ → List ℕ → Result ℕ Refusal
+wrote_after c d at s = result_and c (wrote d at s)
 
 -- inside a writer: e is d with the bytes s from index at on, and r is the index after them
 pub record Run (d : List ℕ) (at : ℕ) (s e : List ℕ) (r : ℕ) : Type 0 where

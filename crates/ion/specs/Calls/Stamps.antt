@@ -1,14 +1,15 @@
 -- What the program `stamps` prints for an input. Assumes nothing.
-use Rattle.std.specs.Prelude.{ℕ, cond, List, [], ◌∷◌, ◌++◌, ltb, length}
+use Rattle.std.specs.Prelude.{ℕ, cond, List, [], ◌∷◌, ◌++◌, ltb, length, Result, Ok, Err}
 use Prim.Native.Char.{code}
-use Rattle.ion.specs.Calls.Refusal.{long_input}
-use Rattle.ion.specs.Calls.Answered.{answered}
-use Rattle.ion.specs.Calls.Contents.{Reader, Contents, contents, in_turn}
+use Rattle.ion.specs.Calls.Refusal.{number_of}
+use Rattle.ion.specs.Calls.Contents.{Contents, contents, in_turn}
 use Rattle.ion.specs.Text.Ascii.{ascii}
 use Rattle.ion.specs.Numbers.Padded.{padded}
 use Rattle.ion.specs.Text.Format.{text_of}
 use Rattle.ion.specs.Value.ReadValue.{read_value}
 use Rattle.ion.specs.declared.Timestamp.{Timestamp}
+use Rattle.ion.specs.declared.refusal.Refusal.{Refusal}
+use Rattle.ion.specs.declared.refusal.Refusal.TheVariants as refusal
 
 abbrev pub line_of : List ℕ → List ℕ
 line_of s = s ++ (code "\n" ∷ [])
@@ -16,17 +17,19 @@ line_of s = s ++ (code "\n" ∷ [])
 abbrev pub text_line : Timestamp → List ℕ
 text_line s = line_of (text_of s)
 
-abbrev pub stop_line : ℕ → List ℕ
-stop_line n = line_of (ascii "stop " ++ padded 1 n)
+abbrev pub stop_line : Refusal → List ℕ
+stop_line r = line_of (ascii "stop " ++ padded 1 (number_of r))
 
-abbrev pub value_reader : Reader Timestamp
-value_reader = record { number = λ s. (read_value s).number; item = λ s. (read_value s).stamp; taken = λ s. (read_value s).taken }
+-- the last line, where there is one
+abbrev pub last_line : Result Unit Refusal → List ℕ
+last_line (Ok u) = []
+last_line (Err r) = stop_line r
 
 -- a line for each timestamp, and one more where the bytes do not read to their end
 unfoldable pub lines_of : Contents Timestamp → List ℕ
-lines_of c = in_turn text_line c.items ++ answered c.number [] stop_line
+lines_of c = in_turn text_line c.items ++ last_line c.ending
 
 unfoldable pub output_of : List ℕ → List ℕ
 output_of s =
-    let lines = lines_of (contents value_reader s) in
-    cond (ltb 65536 (length s)) (stop_line long_input) lines
+    let lines = lines_of (contents read_value s) in
+    cond (ltb 65536 (length s)) (stop_line refusal.LongInput) lines

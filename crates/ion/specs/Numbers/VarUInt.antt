@@ -1,9 +1,9 @@
 -- VarUInt of Ion binary: a number in groups of seven bits, highest first, a byte each, the last byte marked by 128.
 -- Assumes nothing.
-use Rattle.std.specs.Prelude.{ℕ, zero, suc, ◌+◌, ◌*◌, ◌/◌, ◌%◌, Bool, false, cond, List, [], ◌∷◌, eqb, leb, ltb}
+use Rattle.std.specs.Prelude.{ℕ, zero, suc, ◌+◌, ◌*◌, ◌/◌, ◌%◌, Bool, false, cond, List, [], ◌∷◌, eqb, leb, ltb, Result, Ok, Err}
 use Rattle.places.specs.Places.{plain, places_on, place_count}
-use Rattle.ion.specs.declared.VarUIntRead.{VarUIntRead}
-use Rattle.ion.specs.declared.VarUIntRead.TheVariants.{Value, Cut, Bad}
+use Rattle.ion.specs.declared.number.NumberError.{NumberError}
+use Rattle.ion.specs.declared.number.NumberError.TheVariants.{Cut, Bad}
 
 -- m in n bytes
 unfoldable pub groups : ℕ → ℕ → List ℕ
@@ -19,14 +19,14 @@ unfoldable pub varuint : ℕ → List ℕ
 varuint m = groups (group_count m) m
 
 -- a value of k bytes that may be l at most
-abbrev pub up_to : ℕ → ℕ → ℕ → VarUIntRead
-up_to l v k = cond (ltb l v) Bad (Value v k)
+abbrev pub up_to : ℕ → ℕ → ℕ → Result (ℕ × ℕ) NumberError
+up_to l v k = cond (ltb l v) (Err Bad) (Ok (v, k))
 
 -- what a reader that has the value v of k bytes finds in the bytes that follow, of which it takes n at most: a value up to l
 -- at a marked byte, the end of the input before one, or neither
-unfoldable pub scan_from : ℕ → ℕ → ℕ → ℕ → List ℕ → VarUIntRead
-scan_from l zero v k s = Bad
-scan_from l (suc n) v k [] = Cut
+unfoldable pub scan_from : ℕ → ℕ → ℕ → ℕ → List ℕ → Result (ℕ × ℕ) NumberError
+scan_from l zero v k s = Err Bad
+scan_from l (suc n) v k [] = Err Cut
 scan_from l (suc n) v k (b ∷ r) =
     cond (leb 128 b) (up_to l (v * 128 + b % 128) (k + 1)) (scan_from l n (v * 128 + b % 128) (k + 1) r)
 
@@ -37,5 +37,5 @@ zero_first (a ∷ []) = false
 zero_first (a ∷ b ∷ r) = eqb a 0
 
 -- the VarUInt up to l, in its shortest form, with which the bytes begin
-unfoldable pub read_var_uint : ℕ → List ℕ → VarUIntRead
-read_var_uint l s = cond (zero_first s) Bad (scan_from l (group_count l) 0 0 s)
+unfoldable pub read_var_uint : ℕ → List ℕ → Result (ℕ × ℕ) NumberError
+read_var_uint l s = cond (zero_first s) (Err Bad) (scan_from l (group_count l) 0 0 s)

@@ -9,7 +9,7 @@ word_in s = s.packed_fields
 abbrev pub packed_pair : ℕ → ℕ → Timestamp
 packed_pair w a = record { packed_fields = w; attoseconds = a }
 
--- what a refusal hands out
+-- what a refusal hands out where there must be a pair
 abbrev pub no_stamp : Timestamp
 no_stamp = packed_pair 0 0
 

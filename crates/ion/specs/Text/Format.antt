@@ -1,5 +1,5 @@
 -- The text of a timestamp, by `Timestamp::format` and the Ion specification. Assumes nothing.
-use Rattle.std.specs.Prelude.{ℕ, zero, suc, ◌/◌, ◌%◌, cond, List, [], ◌∷◌, ◌++◌, eqb, ℤ, pos, negsuc}
+use Rattle.std.specs.Prelude.{ℕ, zero, suc, ◌/◌, ◌%◌, cond, List, [], ◌∷◌, ◌++◌, eqb, ℤ, pos, negsuc, Option, None, Some}
 use Prim.Native.Char.{code}
 use Rattle.ion.specs.Text.Ascii.{ascii}
 use Rattle.ion.specs.Numbers.Padded.{padded}
@@ -8,8 +8,7 @@ use Rattle.ion.specs.Pair.Word.{fields_of}
 use Rattle.ion.specs.Pair.Pair.{word_in}
 use Rattle.ion.specs.Pair.Fraction.{scale}
 use Rattle.ion.specs.declared.Fields.{Fields}
-use Rattle.ion.specs.declared.offset.Offset.{Offset}
-use Rattle.ion.specs.declared.offset.Offset.TheVariants.{Unknown, Known}
+use Rattle.ion.specs.declared.offset.OffsetMinutes.{OffsetMinutes}
 use Rattle.ion.specs.declared.Timestamp.{Timestamp}
 
 -- a mark and two digits
@@ -36,9 +35,9 @@ minutes_text (pos zero) = zero_text
 minutes_text (pos (suc n)) = code "+" ∷ clock_text (suc n)
 minutes_text (negsuc n) = code "-" ∷ clock_text (suc n)
 
-unfoldable pub offset_text : Offset → List ℕ
-offset_text Unknown = unknown_text
-offset_text (Known m) = minutes_text m.0
+unfoldable pub offset_text : Option OffsetMinutes → List ℕ
+offset_text None = unknown_text
+offset_text (Some m) = minutes_text m.0
 
 -- the five forms
 unfoldable pub fields_text : Fields → ℕ → List ℕ

@@ -1,6 +1,6 @@
 -- The parts of a body of Ion binary, each in its shortest form. Assumes nothing.
 use Rattle.std.specs.Prelude.{ℕ, zero, suc, ◌-◌, ◌*◌, Bool, true, false, cond, not, ◌&&◌, List}
-use Rattle.std.specs.Prelude.{[], ◌∷◌, ◌++◌, eqb, leb, ltb, pos, negsuc, length, drop, get_or}
+use Rattle.std.specs.Prelude.{[], ◌∷◌, ◌++◌, eqb, leb, ltb, pos, negsuc, length, drop, get_or, Option, None, Some, Result, Ok, Err}
 use Rattle.ion.specs.Numbers.VarUInt.{read_var_uint}
 use Rattle.ion.specs.Numbers.VarInt.{read_var_int}
 use Rattle.ion.specs.Numbers.Int.{read_int}
@@ -13,67 +13,55 @@ use Rattle.ion.specs.Calls.Accepted.{time_in}
 use Rattle.ion.specs.Calls.Utc.{with_time}
 use Rattle.ion.specs.declared.Fields.{Fields}
 use Rattle.ion.specs.declared.Body.{Body}
-use Rattle.ion.specs.declared.offset.Offset.{Offset}
-use Rattle.ion.specs.declared.offset.Offset.TheVariants.{Unknown, Known}
+use Rattle.ion.specs.declared.offset.OffsetMinutes.{OffsetMinutes}
 use Rattle.ion.specs.declared.Timestamp.{Timestamp}
-use Rattle.ion.specs.declared.VarUIntRead.{VarUIntRead}
-use Rattle.ion.specs.declared.VarUIntRead.TheVariants as uint
-use Rattle.ion.specs.declared.VarIntRead.{VarIntRead}
-use Rattle.ion.specs.declared.VarIntRead.TheVariants as int
-use Rattle.ion.specs.declared.IntRead.{IntRead}
-use Rattle.ion.specs.declared.IntRead.TheVariants as magnitude
-
--- what bytes are, or that they are no such thing
-pub data Decoded (A : Type 0) : Type 0 where
-  found : A → Decoded A
-  nothing : Decoded A
+use Rattle.ion.specs.declared.number.NumberError.{NumberError}
+use Rattle.ion.specs.declared.number.SignedMagnitude.{SignedMagnitude}
 
 -- ---- the offset, and what follows it
 
 -- negative zero is unknown
-abbrev pub signed_offset : Bool → ℕ → Offset
-signed_offset false m = Known (offset_minutes (pos m))
-signed_offset true zero = Unknown
-signed_offset true (suc m) = Known (offset_minutes (negsuc m))
+abbrev pub signed_offset : Bool → ℕ → Option OffsetMinutes
+signed_offset false m = Some (offset_minutes (pos m))
+signed_offset true zero = None
+signed_offset true (suc m) = Some (offset_minutes (negsuc m))
 
-abbrev pub offset_from : List ℕ → VarIntRead → Decoded (Offset × List ℕ)
-offset_from s (int.Value g m n) = found (signed_offset g m, drop n s)
-offset_from s int.Cut = nothing
-offset_from s int.Bad = nothing
+abbrev pub offset_from : List ℕ → Result (SignedMagnitude × ℕ) NumberError → Option (Option OffsetMinutes × List ℕ)
+offset_from s (Ok x) = Some (signed_offset x.0.negative x.0.magnitude, drop x.1 s)
+offset_from s (Err e) = None
 
-unfoldable pub decode_offset : List ℕ → Decoded (Offset × List ℕ)
+unfoldable pub decode_offset : List ℕ → Option (Option OffsetMinutes × List ℕ)
 decode_offset s = offset_from s (read_var_int 1439 s)
 
 -- ---- up to n fields, and what follows them
 
-abbrev pub one_more : ℕ → Decoded (List ℕ × List ℕ) → Decoded (List ℕ × List ℕ)
-one_more v (found p) = found (v ∷ p.0, p.1)
-one_more v nothing = nothing
+abbrev pub one_more : ℕ → Option (List ℕ × List ℕ) → Option (List ℕ × List ℕ)
+one_more v (Some p) = Some (v ∷ p.0, p.1)
+one_more v None = None
 
-abbrev pub field_from : (List ℕ → Decoded (List ℕ × List ℕ)) → List ℕ → VarUIntRead → Decoded (List ℕ × List ℕ)
-field_from after s (uint.Value v k) = one_more v (after (drop k s))
-field_from after s uint.Cut = nothing
-field_from after s uint.Bad = nothing
+abbrev pub field_from : (List ℕ → Option (List ℕ × List ℕ)) → List ℕ → Result (ℕ × ℕ) NumberError → Option (List ℕ × List ℕ)
+field_from after s (Ok x) = one_more x.0 (after (drop x.1 s))
+field_from after s (Err e) = None
 
 -- no field is above 16383, the most that the word's widest, the year, can hold
-unfoldable pub decode_fields : ℕ → List ℕ → Decoded (List ℕ × List ℕ)
-decode_fields zero s = found ([], s)
-decode_fields (suc n) [] = found ([], [])
+unfoldable pub decode_fields : ℕ → List ℕ → Option (List ℕ × List ℕ)
+decode_fields zero s = Some ([], s)
+decode_fields (suc n) [] = Some ([], [])
 decode_fields (suc n) (b ∷ s) = field_from (decode_fields n) (b ∷ s) (read_var_uint 16383 (b ∷ s))
 
 -- ---- digits and coefficient: an exponent below 0, then all that is left
 
-abbrev pub coefficient_from : ℕ → IntRead → Decoded (ℕ × ℕ)
-coefficient_from d (magnitude.Value c) = found (d, c)
-coefficient_from d magnitude.Bad = nothing
+abbrev pub coefficient_from : ℕ → Option ℕ → Option (ℕ × ℕ)
+coefficient_from d (Some c) = Some (d, c)
+coefficient_from d None = None
 
-abbrev pub fraction_from : List ℕ → VarIntRead → Decoded (ℕ × ℕ)
-fraction_from s (int.Value g m n) = cond (g && ltb 0 m) (coefficient_from m (read_int (drop n s))) nothing
-fraction_from s int.Cut = nothing
-fraction_from s int.Bad = nothing
+abbrev pub fraction_from : List ℕ → Result (SignedMagnitude × ℕ) NumberError → Option (ℕ × ℕ)
+fraction_from s (Ok x) =
+    cond (x.0.negative && ltb 0 x.0.magnitude) (coefficient_from x.0.magnitude (read_int (drop x.1 s))) None
+fraction_from s (Err e) = None
 
-unfoldable pub decode_fraction : List ℕ → Decoded (ℕ × ℕ)
-decode_fraction [] = found (0, 0)
+unfoldable pub decode_fraction : List ℕ → Option (ℕ × ℕ)
+decode_fraction [] = Some (0, 0)
 decode_fraction (b ∷ s) = fraction_from (b ∷ s) (read_var_int 63 (b ∷ s))
 
 -- ---- the whole body
@@ -105,32 +93,32 @@ fields_from v p d =
       second = get_or v 5 0;
       precision = p;
       digits = d;
-      offset = raw_of Unknown;
+      offset = raw_of None;
     }
 
-abbrev pub body_with : Offset → List ℕ → ℕ → ℕ → Body
+abbrev pub body_with : Option OffsetMinutes → List ℕ → ℕ → ℕ → Body
 body_with o l d c = record { offset = o; utc = fields_from (filled l) (precision_with (length l)) d; coefficient = c }
 
-abbrev pub after_fields : Offset → List ℕ → Decoded (ℕ × ℕ) → Decoded Body
-after_fields o l (found x) = found (body_with o l x.0 x.1)
-after_fields o l nothing = nothing
+abbrev pub after_fields : Option OffsetMinutes → List ℕ → Option (ℕ × ℕ) → Option Body
+after_fields o l (Some x) = Some (body_with o l x.0 x.1)
+after_fields o l None = None
 
-abbrev pub after_offset : Offset → Decoded (List ℕ × List ℕ) → Decoded Body
-after_offset o (found p) = cond (is_field_count (length p.0)) (after_fields o p.0 (decode_fraction p.1)) nothing
-after_offset o nothing = nothing
+abbrev pub after_offset : Option OffsetMinutes → Option (List ℕ × List ℕ) → Option Body
+after_offset o (Some p) = cond (is_field_count (length p.0)) (after_fields o p.0 (decode_fraction p.1)) None
+after_offset o None = None
 
-abbrev pub from_offset : Decoded (Offset × List ℕ) → Decoded Body
-from_offset (found p) = after_offset p.0 (decode_fields 6 p.1)
-from_offset nothing = nothing
+abbrev pub from_offset : Option (Option OffsetMinutes × List ℕ) → Option Body
+from_offset (Some p) = after_offset p.0 (decode_fields 6 p.1)
+from_offset None = None
 
-unfoldable pub decode_body : List ℕ → Decoded Body
+unfoldable pub decode_body : List ℕ → Option Body
 decode_body s = from_offset (decode_offset s)
 
 -- ---- the pair of a body: UTC fields are moved to local ones by the offset
 
-abbrev pub local_by : Offset → Fields → Fields
-local_by Unknown u = with_time u (time_in u) (raw_of Unknown)
-local_by (Known m) u = with_time u (shifted (time_in u) m.0) (raw_of (Known m))
+abbrev pub local_by : Option OffsetMinutes → Fields → Fields
+local_by None u = with_time u (time_in u) (raw_of None)
+local_by (Some m) u = with_time u (shifted (time_in u) m.0) (raw_of (Some m))
 
 unfoldable pub pair_from : Body → Timestamp
 pair_from x = packed_pair (word_of (local_by x.offset x.utc)) (x.coefficient * scale x.utc.digits)

@@ -1,5 +1,5 @@
 -- A timestamp's value in Ion binary: descriptor, perhaps a length, and body. Assumes nothing.
-use Rattle.std.specs.Prelude.{ℕ, zero, suc, ◌+◌, ◌/◌, true, cond, List, [], ◌∷◌, ◌++◌, leb, negsuc, length, take}
+use Rattle.std.specs.Prelude.{ℕ, zero, suc, ◌+◌, ◌/◌, true, cond, List, [], ◌∷◌, ◌++◌, leb, negsuc, length, take, Option, None, Some}
 use Rattle.ion.specs.Numbers.VarUInt.{varuint}
 use Rattle.ion.specs.Numbers.VarInt.{signed, varint}
 use Rattle.ion.specs.Numbers.Decimal.{decimal_bytes}
@@ -9,14 +9,13 @@ use Rattle.ion.specs.Pair.Pair.{word_in}
 use Rattle.ion.specs.Pair.Fraction.{scale}
 use Rattle.ion.specs.Calls.Utc.{utc_fields}
 use Rattle.ion.specs.declared.Fields.{Fields}
-use Rattle.ion.specs.declared.offset.Offset.{Offset}
-use Rattle.ion.specs.declared.offset.Offset.TheVariants.{Unknown, Known}
+use Rattle.ion.specs.declared.offset.OffsetMinutes.{OffsetMinutes}
 use Rattle.ion.specs.declared.Timestamp.{Timestamp}
 
 -- an offset in minutes, negative zero where it is unknown
-unfoldable pub offset_bytes : Offset → List ℕ
-offset_bytes Unknown = signed true 0
-offset_bytes (Known m) = varint m.0
+unfoldable pub offset_bytes : Option OffsetMinutes → List ℕ
+offset_bytes None = signed true 0
+offset_bytes (Some m) = varint m.0
 
 unfoldable pub varuints : List ℕ → List ℕ
 varuints [] = []
@@ -35,7 +34,7 @@ fraction_bytes zero c = []
 fraction_bytes (suc d) c = decimal_bytes c (negsuc d)
 
 -- the body of an offset, UTC fields and a coefficient
-unfoldable pub body_from : Offset → Fields → ℕ → List ℕ
+unfoldable pub body_from : Option OffsetMinutes → Fields → ℕ → List ℕ
 body_from o u c = offset_bytes o ++ (varuints (take (field_count u.precision) (field_list u)) ++ fraction_bytes u.digits c)
 
 unfoldable pub body_of : Timestamp → List ℕ

@@ -1,16 +1,15 @@
 -- `file::check_file` meets its contract.
 use Rattle.std.proofs.Common.{rules}
-use Rattle.scan_binary.proofs.Checked.{finish, stop, within, less}
+use Rattle.scan_binary.proofs.Left.{next, answer}
 use Rattle.scan_binary.proofs.file.check_file.Goals as goal
 
-pub returns-then-number-ne0 : goal.returns-then-number-ne0
-returns-then-number-ne0 c = stop c.loop-at.invariant c.read_scan-r.ensures c.loop-at-test.true c.if-number-ne0.true
+pub returns-in_err-scan : goal.returns-in_err-scan
+returns-in_err-scan c =
+    let e = answer c.loop-scan.invariant.checked (rw c.in_err-scan.was at c.in-Some.ensures.steps).0 in search (rules, e)
 
-pub overflow_add-at : goal.overflow_add-at
-overflow_add-at c = let h = within c.loop-at.invariant c.read_scan-r.ensures c.if-number-ne0.false in search (rules, h)
-
-pub loop-at-smaller : goal.loop-at-smaller
-loop-at-smaller c = less c.loop-at.invariant c.read_scan-r.ensures c.if-number-ne0.false
+pub loop-scan-preserved : goal.loop-scan-preserved
+loop-scan-preserved c =
+    record { checked = next c.loop-scan.invariant.checked (rw c.in_ok-scan.was at c.in-Some.ensures.steps); can = tt; ends = tt }
 
 pub returns : goal.returns
-returns c = finish c.loop-at.invariant c.loop-at-test.false
+returns c = answer c.loop-scan.invariant.checked c.in-None.ensures.steps.0

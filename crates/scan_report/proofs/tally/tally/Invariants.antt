@@ -1,10 +1,11 @@
--- The loop of `tally`: the bytes passed are scans, tallied. What is left of the file falls.
-use Rattle.std.proofs.Common.{◌-◌, length}
+-- The loop of `tally`: the scans passed are tallied.
 use Rattle.scan_report.proofs.Tallying.{Tallying}
 use Rattle.scan_report.proofs.tally.tally.Given as goal
 
-abbrev pub invariant-loop-at : goal.invariant-loop-at
-invariant-loop-at l = Tallying l.w l.g l.s l.at l.counts l.last
-
-abbrev pub decreases-loop-at : goal.decreases-loop-at
-decreases-loop-at l = length l.s - l.at
+abbrev pub invariant-loop-scan : goal.invariant-loop-scan
+invariant-loop-scan l =
+    record {
+      tallying : Tallying l.w l.g l.s l.scan-iterator.0.now l.counts l.last;
+      can : (goal.iterator-loop-scan).can_next l.scan-iterator;
+      ends : (goal.iterator-loop-scan).is_finite l.scan-iterator;
+    }

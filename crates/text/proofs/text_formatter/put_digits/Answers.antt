@@ -2,15 +2,9 @@
 use Rattle.std.proofs.Common.{inl, inr, arith}
 use lib.Dec.{lit<}
 use Rattle.text.proofs.Digits.{length_padded}
-use Rattle.text.proofs.Padding.{padding_some, padding_within, padding_next, padding_all}
+use Rattle.text.proofs.Padding.{padding_next, padding_all}
 use Rattle.text.proofs.text_formatter.put_digits.Goals as goal
 use Rattle.text.proofs.text_formatter.put_digits.Goals.{else-width-end-via-then-width-end+else-q-eq0, else-width-end-via-else-width-end}
-
-pub overflow_sub-i : goal.overflow_sub-i
-overflow_sub-i c = omega (arith, padding_some (lit< tt) c.loop-i.invariant)
-
-pub bounds-buf-i : goal.bounds-buf-i
-bounds-buf-i c = omega (arith, padding_some (lit< tt) c.loop-i.invariant, padding_within (lit< tt) c.loop-i.invariant)
 
 pub returns-then-q-eq0 : goal.returns-then-q-eq0
 returns-then-q-eq0 c =
@@ -18,9 +12,6 @@ returns-then-q-eq0 c =
       bytes = padding_all (lit< tt) c.loop-i.invariant c.if-width-end.true c.if-q-eq0.true;
       next = omega (arith, c.loop-i.invariant.ends, length_padded c.args.width c.args.value);
     }
-
-pub loop-i-smaller : goal.loop-i-smaller
-loop-i-smaller c = omega (arith, padding_some (lit< tt) c.loop-i.invariant)
 
 pub loop-i-preserved : goal.loop-i-preserved
 loop-i-preserved c =

@@ -1,10 +1,7 @@
--- The loop of `digits::read_run`: the digits passed are the first, and make the value. What is left to read falls.
-use Rattle.std.proofs.Common.{◌-◌, length}
+-- The loop of `digits::read_run`: the digits passed are the first, and make the value.
+use Rattle.std.proofs.Common.{◌≡◌}
 use Rattle.text_reader.proofs.Reading.{Read}
 use Rattle.text_reader.proofs.digits.read_run.Given as goal
 
-abbrev pub invariant-loop-i : goal.invariant-loop-i
-invariant-loop-i l = Read l.s l.at l.i l.value
-
-abbrev pub decreases-loop-i : goal.decreases-loop-i
-decreases-loop-i l = length l.s - l.i
+abbrev pub invariant-loop-b : goal.invariant-loop-b
+invariant-loop-b l = (l.count ≡ l.b-index) × Read l.r l.b-index l.value

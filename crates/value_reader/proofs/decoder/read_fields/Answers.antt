@@ -1,24 +1,32 @@
 -- `decoder::read_fields` meets its contract.
-use Rattle.std.proofs.Common.{refl, sym, ◌∙◌}
-use Rattle.value_reader.proofs.FieldSteps.{passed_none, passed_more, passed_bad, passed_all, fields_none}
+use lib.Seq.{set-get_or}
+use Rattle.std.proofs.Common.{arith, refl, ap, ℕ, ◌+◌}
+use Rattle.std.proofs.lemmas.Grind.{common_steps}
+use Rattle.value_reader.proofs.FieldSteps.{passed_none, passed_more, passed_bad, passed_six, passed_all}
 use Rattle.value_reader.proofs.decoder.read_fields.Goals as goal
 
-pub loop-count-init : goal.loop-count-init
-loop-count-init c = passed_none _ _
+pub loop-value-init : goal.loop-value-init
+loop-value-init c = record { passed = passed_none _ _; same = refl }
 
-pub loop-count-preserved : goal.loop-count-preserved
-loop-count-preserved c =
-    passed_more c.loop-count.invariant _ _ c.loop-count-test.true (sym c.read_u64.ensures.value ∙ c.in-Value.is)
+pub returns-in_err-x : goal.returns-in_err-x
+returns-in_err-x c =
+    rw c.from_residual.ensures
+    (passed_bad c.loop-value.invariant.passed (grind (arith, common_steps)) (grind (arith, common_steps)) (grind (arith, common_steps)))
 
-pub returns-in-Cut : goal.returns-in-Cut
-returns-in-Cut c =
-    let e = sym c.read_u64.ensures.value ∙ c.in-Cut.is in
-    fields_none _ _ _ (passed_bad c.loop-count.invariant _ c.loop-count-test.true e (λ f t. refl)) c.no_fields.ensures
+pub overflow_add-count : goal.overflow_add-count
+overflow_add-count c = let h = c.loop-value.invariant in omega (arith, h.same, h.passed.most)
 
-pub returns-in-Bad : goal.returns-in-Bad
-returns-in-Bad c =
-    let e = sym c.read_u64.ensures.value ∙ c.in-Bad.is in
-    fields_none _ _ _ (passed_bad c.loop-count.invariant _ c.loop-count-test.true e (λ f t. refl)) c.no_fields-in-Bad.ensures
+pub loop-value-preserved : goal.loop-value-preserved
+loop-value-preserved c =
+    record {
+      passed = passed_more c.loop-value.invariant.passed _ _ (grind (arith, common_steps)) (grind (arith, common_steps)) (grind (arith, common_steps));
+      same = ap (λ (n : ℕ). n + 1) c.loop-value.invariant.same;
+    }
 
-pub returns : goal.returns
-returns c = passed_all c.loop-count.invariant c.loop-count-test.false
+pub returns-after-loop-value : goal.returns-after-loop-value
+returns-after-loop-value c = rw c.loop-value.invariant.same (passed_six c.loop-value.invariant.passed (grind (arith, common_steps)))
+
+pub returns-then-next-s : goal.returns-then-next-s
+returns-then-next-s c =
+    rw (set-get_or c.loop-value.value-items c.loop-value.value-index 0, c.loop-value.invariant.same)
+    (passed_all c.loop-value.invariant.passed (grind (arith, common_steps)))

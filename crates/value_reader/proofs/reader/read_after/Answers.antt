@@ -1,11 +1,22 @@
 -- `reader::read_after` meets its contract.
-use Rattle.std.proofs.Common.{sym}
-use Rattle.value_reader.proofs.PartsReadings.{parts_encodable, parts_taken}
+use Rattle.std.proofs.Common.{Ok, Err, arith}
+use Rattle.std.proofs.lemmas.Grind.{common_steps}
+use Rattle.value_reader.proofs.PartsReadings.{parts_encodable, parts_read}
 use Rattle.value_reader.proofs.reader.read_after.Goals as goal
 
 pub read_parts-requires : goal.read_parts-requires
-read_parts-requires c = parts_encodable c.args.s.now c.args.at c.args.n c.type_inv.s _ (sym c.in-Parts.ensures)
+read_parts-requires c = parts_encodable c.args.header c.args.n c.args.rest.now c.type_inv.rest _ (grind (arith, common_steps))
 
-pub returns-in-Parts : goal.returns-in-Parts
-returns-in-Parts c =
-    parts_taken c.args.s.now c.args.at c.args.n c.type_inv.s _ (sym c.in-Parts.ensures) _ c.if-s-at.false c.read_parts.ensures
+pub returns-in_err-read_parts : goal.returns-in_err-read_parts
+returns-in_err-read_parts c =
+    let s = c.args.rest.now in
+    let parts = parts_read c.args.header c.args.n s c.type_inv.rest c.in_ok-x.x (grind (arith, common_steps)) in
+    let answer = parts (grind (arith, common_steps)) (Err _) c.in_err-read_parts.ensures in
+    grind (arith, common_steps)
+
+pub returns : goal.returns
+returns c =
+    let s = c.args.rest.now in
+    let parts = parts_read c.args.header c.args.n s c.type_inv.rest c.in_ok-x.x (grind (arith, common_steps)) in
+    let answer = parts (grind (arith, common_steps)) (Ok _) c.in_ok-read_parts.ensures in
+    grind (arith, common_steps)

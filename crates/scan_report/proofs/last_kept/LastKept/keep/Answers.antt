@@ -5,9 +5,9 @@ use Rattle.scan_report.proofs.last_kept.LastKept.keep.Goals as goal
 pub invariant_of-self : goal.invariant_of-self
 invariant_of-self c =
     let r = c.requires in
-    kept_next c.self.invariant c.self.view_is c.args.x c.args.place r.place c.args.moment r.counted c.if-place-self.true r.room
+    kept_next c.self.invariant c.self.view_is c.args.x c.args.place r.place c.args.count r.counted c.if-place-self.true r.room
 
 pub invariant_of-self-else-place-self : goal.invariant_of-self-else-place-self
 invariant_of-self-else-place-self c =
     let r = c.requires in
-    kept_there c.self.invariant c.self.view_is c.args.x c.args.place r.place c.args.moment r.counted c.if-place-self.false
+    kept_there c.self.invariant c.self.view_is c.args.x c.args.place r.place c.args.count r.counted c.if-place-self.false

@@ -1,14 +1,17 @@
 -- `LastKept::place` meets its contract.
-use Rattle.std.proofs.Common.{arith}
-use Rattle.scans.specs.Tally.{no_scan}
-use Rattle.scan_report.proofs.Kept.{place_found, place_none}
+use Rattle.std.proofs.Common.{◌∙◌, rules, tests}
+use Rattle.std.proofs.lemmas.Iterator.{YieldsList-from_slice}
+use Rattle.std.proofs.lemmas.Iterator.Search.{position_from_yields_List}
+use Rattle.scans.specs.Tally.{same_post}
+use Rattle.scan_report.proofs.Kept.{kept_length, place_found, place_by}
 use Rattle.scan_report.proofs.last_kept.LastKept.place.Goals as goal
 
 pub returns-then-self-hint : goal.returns-then-self-hint
 returns-then-self-hint c = place_found c.self.invariant c.self.view_is c.args.x _ _ c.if-hint-self.true c.if-self-hint.true
 
-pub returns-then-self-i : goal.returns-then-self-i
-returns-then-self-i c = place_found c.self.invariant c.self.view_is c.args.x _ _ c.loop-i-test.true c.if-self-i.true
-
 pub returns : goal.returns
-returns c = place_none c.self.invariant c.self.view_is c.args.x no_scan (λ i h. c.loop-i.invariant i (omega arith))
+returns c =
+    let found =
+    position_from_yields_List (same_post c.args.x) _ _ c.position.result c.position.ensures.ran (YieldsList-from_slice c.args.self.now cc)
+    (λ y b q k. search (rules, tests)) in
+    c.unwrap_or.ensures ∙ place_by c.args.x c.args.self.now found (kept_length c.self.invariant c.self.view_is)

@@ -1,7 +1,0 @@
--- Every entry of the table is its power of ten. Assumes nothing.
-use Rattle.std.proofs.Common.{◌-◌, ◌<◌, arith}
-use Rattle.fraction.proofs.Scales.{entry}
-use Rattle.fraction.proofs.powers.scale.Goals as goal
-
-pub returns : goal.returns
-returns c = let h : 18 - c.args.digits < 19 = omega arith in rw (entry, tt, h)

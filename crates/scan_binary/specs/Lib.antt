@@ -1,0 +1,2 @@
+-- What the contracts of the readers of whole files cite.
+pub mod Scans

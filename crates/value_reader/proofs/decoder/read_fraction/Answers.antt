@@ -1,0 +1,18 @@
+-- `decoder::read_fraction` meets its contract.
+use Rattle.std.proofs.Common.{None, Some, sym, ◌∙◌, arith}
+use Rattle.std.proofs.lemmas.Grind.{common_steps}
+use Rattle.value_reader.proofs.FieldSteps.{fraction_some}
+use Rattle.value_reader.proofs.decoder.read_fraction.Goals as goal
+
+pub returns-in_err-coefficient : goal.returns-in_err-coefficient
+returns-in_err-coefficient c =
+    let found = c.in_ok-exponent in
+    let after = fraction_some c.args.s.now c.args.at found.exponent found.n (grind (arith, common_steps)) c.if-s-at.false in
+    let none = after (grind (arith, common_steps)) c.if-exponent-eq0.false None (grind (arith, common_steps)) in
+    c.from_residual-in_err-coefficient.ensures ∙ sym none
+
+pub returns : goal.returns
+returns c =
+    let found = c.in_ok-exponent in
+    let after = fraction_some c.args.s.now c.args.at found.exponent found.n (grind (arith, common_steps)) c.if-s-at.false in
+    sym (after (grind (arith, common_steps)) c.if-exponent-eq0.false (Some _) (grind (arith, common_steps)))
