@@ -284,4 +284,6 @@ pub trait Library {
     fn add_offset_to_utc(&self, time: DateTime, offset: i32) -> Option<DateTime>;
     /// The month's length; 0 for a month outside 1 to 12 and for a year above 10000.
     fn days_in_month(&self, year: u32, month: u32) -> u32;
+    /// The days from 0000-01-01 to the year's 1 January.
+    fn year_start(&self, year: u32) -> u64;
 }

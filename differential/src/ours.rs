@@ -1,7 +1,7 @@
 //! The proved library: the exported calls of its crates `test_calendar_exports`, `test_exports` and `test_scan_exports`,
 //! each made an archive by `rt lib` and linked under the feature `ours`.
 //!
-//! Every call returns the scope's number, but for `days_in_month`, which refuses nothing and returns its answer.
+//! Every call returns the scope's number, but for `days_in_month` and `year_start`, which refuse nothing and return their answers.
 //! Everything else that a call answers comes back through references, which a refusal sets to 0; a byte slice is a
 //! pointer and a length. The numbers above 100 are the exported calls' own, for codes that stand for nothing and for a
 //! shift of what is no date and time. Nothing checks these declarations against the library's own (in these crates'
@@ -98,6 +98,7 @@ extern "C" {
         time: &mut [u32; 5],
     ) -> u32;
     fn days_in_month(year: u32, month: u32) -> u32;
+    fn year_start(year: u32) -> u64;
 }
 
 pub struct Ours;
@@ -348,5 +349,9 @@ impl Library for Ours {
 
     fn days_in_month(&self, year: u32, month: u32) -> u32 {
         unsafe { days_in_month(year, month) }
+    }
+
+    fn year_start(&self, year: u32) -> u64 {
+        unsafe { year_start(year) }
     }
 }

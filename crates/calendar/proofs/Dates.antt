@@ -6,16 +6,19 @@ use Prim.Native.Nat.{ℕ, ◌+◌, ◌-◌, ◌≤◌, ◌<◌}
 use native.Mathlib.Decide.{dec_le}
 use native.Mathlib.Omega.{arith}
 use lib.Dec.{leb}
+use lib.ListN.{get_or}
 use borrow.Author.Tests.{le-leb, lt-leb}
 use Rattle.std.proofs.lemmas.Bool.{cases_order}
 use Rattle.places.proofs.Decides.{Decides, le_decides, ◌and◌}
-use Rattle.ion.specs.Calendar.Dates.{is_leap, month_length_of, month_length, year_length, sum_below}
+use Rattle.ion.specs.Calendar.Dates.{is_leap, month_length_of, month_length, year_length, year_start, sum_below}
 use Rattle.ion.specs.Calendar.Dates.{month_start, day_number, IsDate, Earlier}
 use Rattle.ion.specs.Calendar.Dates.{is_month, is_date}
 use Rattle.ion.specs.declared.Date.{Date}
-use Rattle.calendar.proofs.Sums.{sum_past}
-use Rattle.calendar.proofs.Years.{leaps_before, leap_day_le, year_start_lem, year_start_below}
+use Rattle.calendar.proofs.Sums.{sum_more, sum_past}
+use Rattle.year_table.proofs.Entries.{start_at, starts_length, leap_day_le, year_start_below}
+use Rattle.calendar.proofs.Years.{leaps_before, year_start_lem}
 use Rattle.calendar.proofs.Months.{month_decides, no_month, month_least, month_from_one, month_to_twelve, month_most, months_year}
+use Rattle.calendar.proofs.Months.{starts, start_early, start_late}
 
 -- ---- what is a date
 
@@ -125,10 +128,27 @@ pub day_number_below : (t : Date) → IsDate t → t.year ≤ 10000 → day_numb
 unfolding leaps_before
 day_number_below t p h = omega (arith, in_year_lem t p, leap_day_le (is_leap t.year), year_start_lem t.year)
 
+-- up to February, and from March on
+module _ (t : Date) (p : IsDate t) where
+  pub early_number : t.month ≤ 2 → day_number t ≡ year_start t.year + get_or starts t.month 0 + t.day - 1
+  early_number h = omega (arith, p.first, start_early (is_leap t.year) t.month h)
+
+  pub late_number : 2 < t.month → day_number t ≡ year_start (t.year + 1) + get_or starts t.month 0 + t.day - 366
+  late_number h = omega (arith, p.first, start_late (is_leap t.year) t.month h (month_of_lem t p), sum_more year_length t.year)
+
+pub year_before : (y : ℕ) → 365 ≤ year_start (y + 1)
+year_before y = omega (arith, sum_more year_length y)
+
+pub day_low : (t : Date) → IsDate t → 1 ≤ t.day
+day_low t p = p.first
+
 -- ---- lists of laws, for the code
 
 -- a date's month is one, and its number is small
 pub ruleset dates = (month_low, month_of_lem, in_year_lem, year_start_below, leap_day_le)
+
+-- its number, by the tables
+pub ruleset numbers = (start_at, starts_length, early_number, late_number, year_before, day_low, month_of_lem, year_start_below)
 
 -- a day that there is, or is not
 pub ruleset days_there = (low_day, no_day_lem)

@@ -123,5 +123,3 @@ start_late leap m h k = start_is leap m k ∙ simp (lt-ltb 2 m h)
 -- ---- lists of laws, for the code
 
 pub ruleset lengths = (fixed_length, february)
-
-pub ruleset month_starts = (start_early, start_late)

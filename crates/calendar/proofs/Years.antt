@@ -35,10 +35,6 @@ test_le (suc a) b f = rw (eqb-suc-zero a) zero-le
 unfoldable pub leaps_before : ℕ → ℕ
 leaps_before y = (y + 3) / 4 - (y + 99) / 100 + (y + 399) / 400
 
-pub leap_day_le : (leap : Bool) → leap_day leap ≤ 1
-leap_day_le true = le_refl 1
-leap_day_le false = zero-le
-
 leap_count : (p q r : Bool) → leap_day r ≤ leap_day q → leap_day q ≤ leap_day p
     → leap_day ((p && not q) || r) + leap_day q ≡ leap_day p + leap_day r
 leap_count true true true h k = refl
@@ -67,10 +63,6 @@ pub year_start_lem : (y : ℕ) → year_start y ≡ 365 * y + leaps_before y
 unfolding sum_below leaps_before
 year_start_lem zero = refl
 year_start_lem (suc y) = omega (arith, year_start_lem y, leap_step y)
-
-pub year_start_below : (y : ℕ) → year_start y ≤ 366 * y + 2
-unfolding leaps_before
-year_start_below y = omega (arith, year_start_lem y)
 
 -- for the code
 pub ruleset year_starts = (year_start_lem)

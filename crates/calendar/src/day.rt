@@ -1,14 +1,15 @@
 // The number of a day, counted from 0000-01-01, and the days after and before it. That a date is one stays a fact in contracts: as
 // a type it would keep `is_date` and the builder from holding a date that is none.
 ghost use Rattle.std.specs.Prelude.{◌≡◌, ◌≤◌};
-ghost use Rattle.ion.specs.Calendar.Dates.{IsDate, year_start, month_start, day_number, next_day, prev_day};
+ghost use Rattle.ion.specs.Calendar.Dates.{IsDate, year_start, day_number, next_day, prev_day};
 
-use crate::month::{is_leap, month_length};
+use crate::month::month_length;
 use ion::Date;
+use year_table::year_starts;
 
-// The number of 1 January, in closed form: years of 365 days, and a day for each leap year before.
+// The number of 1 January in closed form: years of 365 days, and a day for each leap year before.
 #[tactic(auto, using(crate::proofs::Years::year_starts), unfolding(crate::proofs::Years::leaps_before))]
-pub fn year_start(year: u32) -> u64
+fn late_year_start(year: u32) -> u64
     ensures { result ≡ year_start year }
 {
     let y = year as u64;
@@ -16,31 +17,34 @@ pub fn year_start(year: u32) -> u64
     365 * y + (y + 3) / 4 - centuries + (centuries + 3) / 4
 }
 
-// By month, 1 being January: the days before it in a year that is no leap year.
-const MONTH_STARTS: [u16; 13] = [0, 0, 31, 59, 90, 120, 151, 181, 212, 243, 273, 304, 334];
-
-// The days of the year before the month.
-#[tactic(auto, using(crate::proofs::Months::month_starts))]
-pub fn month_start(year: u32, month: u32) -> u64
-    requires { month ≤ 12 }
-    ensures { result ≡ month_start year month }
+// The number of 1 January: the table's up to year 10000.
+#[tactic(auto, using(year_table::proofs::Entries::start_at, year_table::proofs::Entries::starts_length))]
+pub fn year_start(year: u32) -> u64
+    ensures { result ≡ year_start year }
 {
-    let start = MONTH_STARTS[month as usize] as u64;
-    if 2 < month && is_leap(year) {
-        start + 1
-    } else {
-        start
+    match year_starts().get(year as usize) {
+        Some(&start) => start as u64,
+        None => late_year_start(year),
     }
 }
 
-#[tactic(auto, using(crate::proofs::Dates::dates))]
+// By month, 1 being January: the days before it in a year that is no leap year.
+const MONTH_STARTS: [u16; 13] = [0, 0, 31, 59, 90, 120, 151, 181, 212, 243, 273, 304, 334];
+
+// The number of a day. From March on it is counted from the next year's start, before which so many days of every year are left.
+#[tactic(auto, using(crate::proofs::Dates::numbers))]
 pub fn day_number(date: Date) -> u64
-    requires { IsDate date }
+    requires { (date.year ≤ 9999) × IsDate date }
     ensures { result ≡ day_number date }
 {
-    let start = year_start(date.year);
-    let before = month_start(date.year, date.month);
-    start + before + (date.day as u64 - 1)
+    let year = date.year as usize;
+    let (from, back) = if 2 < date.month {
+        (year + 1, 366)
+    } else {
+        (year, 1)
+    };
+    let before = MONTH_STARTS[date.month as usize] as u64;
+    year_starts()[from] as u64 + before + date.day as u64 - back
 }
 
 #[tactic(auto, using(crate::proofs::Dates::dates))]

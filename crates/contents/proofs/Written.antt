@@ -16,13 +16,6 @@ module _ {A : Type 0} where
   AllStored Stored [] = Unit
   AllStored Stored (x ∷ xs) = Stored x × AllStored Stored xs
 
-  -- one more item
-  pub in_turn_last : (bytes : A → List ℕ) (xs : List A) (x : A) → in_turn bytes (xs ++ (x ∷ [])) ≡ in_turn bytes xs ++ bytes x
-  unfolding in_turn
-  in_turn_last bytes [] x = append-nil (bytes x)
-  in_turn_last bytes (y ∷ xs) x =
-      ap (λ (l : List ℕ). bytes y ++ l) (in_turn_last bytes xs x) ∙ sym (append_assoc (bytes y) (in_turn bytes xs) (bytes x))
-
 module _ {A : Type 0} {read : Reader A} {bytes : A → List ℕ} {Stored : A → Type 0} (a : Advances read) (i : Inverse read bytes Stored) where
   -- whatever follows them
   pub contents_written : (xs : List A) (r : List ℕ) → AllStored Stored xs

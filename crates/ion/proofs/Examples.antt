@@ -29,7 +29,8 @@ use Rattle.ion.specs.Calls.Utc.{utc_fields}
 use Rattle.ion.specs.Pair.Count.{count_of}
 use Rattle.ion.specs.Calls.Order.{cmp_of, eq_of, distance_of}
 use Rattle.ion.specs.Text.Format.{marked, fraction_text, clock_text, minutes_text, offset_text, fields_text, text_of}
-use Rattle.ion.specs.Value.Encode.{offset_bytes, varuints, field_count, fraction_bytes, body_from, body_of, header, value_of}
+use Rattle.ion.specs.Calls.Contents.{in_turn}
+use Rattle.ion.specs.Value.Encode.{offset_bytes, field_count, fraction_bytes, body_from, body_of, header, value_of}
 use Rattle.ion.specs.Value.Decode.{decode_offset, decode_fields, decode_fraction, filled, precision_with, decode_body, pair_from}
 use Rattle.ion.specs.Value.ReadValue.{same, is_body_of, read_body, read_after, read_length, read_value}
 use Rattle.ion.specs.declared.BuilderFields.{BuilderFields}
@@ -197,7 +198,7 @@ unfolding table row date minute sixth at p1 p3 p4 p5 p6 p7 p8 p1_bytes p3_bytes 
     built_answer built refused text written read_back taken compared apart places_on places count_in count place_count value_from groups
     varuint scan_from read_var_uint signed_count signed varint read_var_int int_count int read_int decimal_bytes padded_places is_leap
     month_length_of sum_below word_of fields_of capped build_of build_checks build_pair check_of utc_fields count_of cmp_of eq_of
-    distance_of marked fraction_text clock_text minutes_text offset_text fields_text text_of offset_bytes varuints field_count
+    distance_of marked fraction_text clock_text minutes_text offset_text fields_text text_of offset_bytes in_turn field_count
     fraction_bytes body_from body_of header value_of decode_offset decode_fields decode_fraction filled precision_with decode_body pair_from
     same is_body_of read_body read_after read_length read_value
 examples = refl

@@ -1,7 +1,9 @@
 pub mod Answers
 pub mod Examples
+pub mod InTurn
 pub mod MonthExamples
 pub mod Offsets
 pub mod PaddedExamples
 pub mod Same
 pub mod TextExamples
+pub mod YearExamples

@@ -1,3 +1,4 @@
--- Dates, and dates and times moved by minutes.
+-- Dates, year starts, and dates and times moved by minutes.
 pub mod Dates
+pub mod YearStarts
 pub mod Shift

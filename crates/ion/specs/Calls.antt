@@ -11,3 +11,4 @@ pub mod Utc
 pub mod Order
 pub mod Contents
 pub mod Stamps
+pub mod YearListing

@@ -15,7 +15,7 @@ use Rattle.ion.specs.declared.Timestamp.{Timestamp}
 use Rattle.output.proofs.Stores.{length_over}
 use Rattle.output.proofs.Runs.{run_none, run_two, run_is}
 use Rattle.contents.proofs.Passing.{Passed, pass_start, pass_end, pass_stop, length_rest, pass_less, pass_next}
-use Rattle.contents.proofs.Written.{in_turn_last}
+use Rattle.ion.proofs.InTurn.{in_turn_last}
 use Rattle.value_reader.proofs.Readings.{value_within}
 use Rattle.listing.proofs.Lines.{value_advances, output_end, output_stop}
 

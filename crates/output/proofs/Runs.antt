@@ -1,14 +1,16 @@
 -- Runs of bytes put one after another into an array that is lent from call to call. Assumes nothing.
 use mathlib.Core.Path.{◌≡◌, refl, sym, ap, ap₂, ◌∙◌}
 use mathlib.Core.List.{List, [], ◌++◌}
-use Prim.Native.Nat.{ℕ, ◌+◌, ◌-◌, ◌≤◌}
+use Prim.Native.Nat.{ℕ, ◌+◌, ◌-◌, ◌≤◌, ◌<◌}
 use native.Mathlib.Nat.{add-zero}
 use native.Mathlib.Omega.{arith}
-use lib.ListN.{length, length-append, length-drop, take, drop, take-append-drop}
+use lib.ListN.{length, length-append, length-drop, get_or, take, drop, take-append-drop}
 use lib.Seq.{drop-drop, take_at, drop-append-le}
 use borrow.Rule.Slice.PartMut.{put_mid}
 use Rattle.places.specs.Padded.{last_bytes}
+use Rattle.ion.specs.Calls.Contents.{in_turn}
 use Rattle.ion.specs.Calls.Output.{over, Run, Between}
+use Rattle.ion.proofs.InTurn.{in_turn_more, in_turn_room}
 use Rattle.output.proofs.Stores.{take_over, drop_there, over_over, over_before, length_over}
 
 pub run_none : (d : List ℕ) (at : ℕ) → Run d at [] d at
@@ -69,6 +71,24 @@ run_last {d} {e} {a} {c} {s} g l k h =
           ∙ drop-append-le j s r (omega arith))
           ∙ take_at (drop j s) r k (length-drop j s ∙ omega arith));
     }
+
+-- ---- items one after another, where there is room for all
+
+pub each_none : {A : Type 0} (bytes : A → List ℕ) (d : List ℕ) (at : ℕ) → Run d at (in_turn bytes []) d at
+unfolding in_turn
+each_none bytes d at = run_none d at
+
+-- after the first i of them the next has room, and is put behind them
+module _ {A : Type 0} (bytes : A → List ℕ) (z : A) (xs : List A) (i : ℕ) {d e : List ℕ} {at r : ℕ}
+    (p : Run d at (in_turn bytes (take i xs)) e r) where
+  pub each_room : i < length xs → at + length (in_turn bytes xs) ≤ length d → r + length (bytes (get_or xs i z)) ≤ length d
+  each_room h m = omega (arith, p.next, in_turn_room bytes z xs i h, m)
+
+  pub each_put : {f : List ℕ} {q : ℕ} → i < length xs → at + length (in_turn bytes xs) ≤ length d
+      → Run e r (bytes (get_or xs i z)) f q → Run d at (in_turn bytes (take (i + 1) xs)) f q
+  each_put {q = q} h m w =
+      let end : q ≤ length d = omega (arith, w.next, each_room h m) in
+      rw (in_turn_more bytes z xs i h) (run_two p w end)
 
 -- ---- two runs one after the other, where there is room for both together
 

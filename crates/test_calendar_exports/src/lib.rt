@@ -3,3 +3,4 @@
 
 mod months;
 mod shifting;
+mod years;

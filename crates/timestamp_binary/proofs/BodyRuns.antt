@@ -1,19 +1,16 @@
 -- The parts of a body as its writer puts them, one after another: the offset, the fields, the fraction. Assumes nothing.
-use mathlib.Core.Path.{◌≡◌, refl, sym, ap, ap₂, ◌∙◌}
+use mathlib.Core.Path.{◌≡◌, refl, ap, ap₂, ◌∙◌}
 use mathlib.Core.Bool.{true}
-use mathlib.Core.List.{List, [], ◌∷◌, ◌++◌, append_assoc, append-nil}
+use mathlib.Core.List.{List, [], ◌++◌}
 use Rattle.std.specs.Prelude.{Option}
 use Prim.Native.Nat.{ℕ, zero, suc, ◌+◌, ◌/◌, ◌^◌, ◌≤◌, ◌<◌}
-use native.Mathlib.Numerals.{add-one}
 use native.Mathlib.Omega.{arith}
 use lib.IntN.{pos, neg_ℤ, ◌-ℤ◌, +ℤ_idl}
-use lib.ListN.{length, take, get_or, length-append}
-use lib.Seq.{take-suc}
+use lib.ListN.{length, take}
 use mir.Syntax.{w64}
 use mir.Val.{to_z, of_z}
 use Rattle.std.proofs.lemmas.Int.{to_z-of_z, to_z_pos}
 use Rattle.integers.proofs.Parts.{minus_fits}
-use Rattle.ion.specs.Numbers.VarUInt.{varuint}
 use Rattle.ion.specs.Numbers.VarInt.{signed, varint}
 use Rattle.ion.specs.Numbers.Int.{int}
 use Rattle.ion.specs.Numbers.Decimal.{decimal_bytes}
@@ -32,47 +29,6 @@ use Rattle.output.proofs.Runs.{run_none, run_two, Room, room_next}
 use Rattle.fraction.proofs.Scales.{scale_pos}
 use Rattle.binary.proofs.Decimals.{decimal_fraction}
 use Rattle.timestamp.proofs.UtcForm.{utc_is}
-
--- ---- fields, and what stands before and after each
-
-varuints_append : (l m : List ℕ) → varuints (l ++ m) ≡ varuints l ++ varuints m
-unfolding varuints
-varuints_append [] m = refl
-varuints_append (v ∷ l) m =
-    ap (λ (t : List ℕ). varuint v ++ t) (varuints_append l m) ∙ sym (append_assoc (varuint v) (varuints l) (varuints m))
-
-pub fields_none : (d : List ℕ) (at : ℕ) → Run d at (varuints []) d at
-unfolding varuints
-fields_none d at = run_none d at
-
-varuints_more : (l : List ℕ) (i : ℕ) → i < length l → varuints (take (i + 1) l) ≡ varuints (take i l) ++ varuint (get_or l i 0)
-unfolding varuints
-varuints_more l i h =
-    let v = get_or l i 0 in
-    rw (add-one i)
-    (ap varuints (take-suc l i 0 h)
-    ∙ varuints_append (take i l) (v ∷ [])
-    ∙ ap (λ (t : List ℕ). varuints (take i l) ++ t) (append-nil (varuint v)))
-
--- where all have room, so has each after those before it
-varuints_room : (l : List ℕ) (i : ℕ) → i < length l → length (varuints (take i l)) + length (varuint (get_or l i 0)) ≤ length (varuints l)
-unfolding varuints
-varuints_room [] i h = absurd (omega arith)
-varuints_room (v ∷ l) zero h = omega (arith, length-append (varuint v) (varuints l))
-varuints_room (v ∷ l) (suc i) h =
-    let after = varuints_room l i (omega arith) in
-    omega (arith, length-append (varuint v) (varuints (take i l)), length-append (varuint v) (varuints l))
-
--- after the first i of fields that have room: the next has room, and is put behind them
-module _ (l : List ℕ) (i : ℕ) {d e : List ℕ} {at r : ℕ} (p : Run d at (varuints (take i l)) e r) where
-  pub field_room : i < length l → at + length (varuints l) ≤ length d → r + length (varuint (get_or l i 0)) ≤ length d
-  field_room h m = omega (arith, p.next, varuints_room l i h, m)
-
-  pub field_put : {f : List ℕ} {q : ℕ} → i < length l → at + length (varuints l) ≤ length d → Run e r (varuint (get_or l i 0)) f q
-      → Run d at (varuints (take (i + 1) l)) f q
-  field_put {q = q} h m w =
-      let end : q ≤ length d = omega (arith, w.next, field_room h m) in
-      rw (varuints_more l i h) (run_two p w end)
 
 -- ---- the fraction, whose exponent is minus its number of digits
 

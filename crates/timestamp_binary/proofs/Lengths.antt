@@ -19,6 +19,7 @@ use Rattle.ion.specs.Pair.Pair.{word_in}
 use Rattle.ion.specs.Pair.Fraction.{scale}
 use Rattle.ion.specs.Calls.Accepted.{Accepted, date_in, time_in}
 use Rattle.ion.specs.Calls.Utc.{utc_fields}
+use Rattle.ion.specs.Calls.Contents.{in_turn}
 use Rattle.ion.specs.Value.Encode.{offset_bytes, varuints, field_list, field_count, fraction_bytes, body_from, body_of, header, value_of}
 use Rattle.ion.specs.declared.Fields.{Fields}
 use Rattle.ion.specs.declared.Timestamp.{Timestamp}
@@ -44,7 +45,7 @@ offset_length (Some m) h =
     omega (arith, length_signed (is_negative m.0) n, signed_shortest 1 n (omega arith))
 
 short_length : (l : List ℕ) → Below 128 l → length (varuints l) ≤ length l
-unfolding varuints
+unfolding in_turn
 short_length [] h = omega arith
 short_length (v ∷ l) h =
     let x = h 0 in
@@ -52,7 +53,7 @@ short_length (v ∷ l) h =
     omega (arith, length-append (varuint v) (varuints l), length_varuint v, count_shortest 0 v (omega arith))
 
 fields_length : (n y : ℕ) (l : List ℕ) → y < 16384 → Below 128 l → length (varuints (take n (y ∷ l))) ≤ 2 + length l
-unfolding varuints
+unfolding in_turn
 fields_length zero y l h k = omega arith
 fields_length (suc n) y l h k =
     let after = short_length (take n l) (below_take 128 n l (lit< tt) k) in
@@ -120,7 +121,7 @@ offset_some None = omega (arith, length_signed true 0, signed_some 0)
 offset_some (Some m) = omega (arith, length_signed (is_negative m.0) (nat_abs m.0), signed_some (nat_abs m.0))
 
 year_some : (p y : ℕ) (l : List ℕ) → 1 ≤ length (varuints (take (field_count p) (y ∷ l)))
-unfolding varuints field_count
+unfolding in_turn field_count
 year_some p y l = go (leb 3 p)
   where
     at : (n : ℕ) → 0 < n → 1 ≤ length (varuints (take n (y ∷ l)))

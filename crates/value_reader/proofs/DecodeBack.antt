@@ -17,6 +17,7 @@ use Rattle.ion.specs.Numbers.Int.{int}
 use Rattle.ion.specs.Pair.Offset.{WithinDay, offset_minutes, raw_offset}
 use Rattle.ion.specs.Calls.Accepted.{time_in}
 use Rattle.ion.specs.Calls.Utc.{with_time}
+use Rattle.ion.specs.Calls.Contents.{in_turn}
 use Rattle.ion.specs.Value.Encode.{offset_bytes, varuints, field_list, field_count, fraction_bytes, body_from}
 use Rattle.ion.specs.Value.Decode.{signed_offset, offset_from, decode_offset, one_more, field_from, decode_fields}
 use Rattle.ion.specs.Value.Decode.{fraction_from, decode_fraction, filled, precision_with, is_field_count, fields_from}
@@ -57,7 +58,7 @@ field_next n (b ∷ t) h = refl
 
 fields_back : (n : ℕ) (l r : List ℕ) → Below 16384 l → length l ≤ n → (length l < n → r ≡ [])
     → decode_fields n (varuints l ++ r) ≡ Some (l, r)
-unfolding varuints decode_fields
+unfolding in_turn decode_fields
 fields_back zero [] r h k z = refl
 fields_back zero (v ∷ l) r h k z = absurd (omega arith)
 fields_back (suc n) [] r h k z = rw (z (omega arith))

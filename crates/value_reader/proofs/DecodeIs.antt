@@ -13,6 +13,7 @@ use Rattle.ion.specs.Numbers.VarUInt.{varuint, read_var_uint}
 use Rattle.ion.specs.Numbers.VarInt.{signed, varint, signed_magnitude, read_var_int}
 use Rattle.ion.specs.Numbers.Int.{read_int}
 use Rattle.ion.specs.Pair.Offset.{WithinDay}
+use Rattle.ion.specs.Calls.Contents.{in_turn}
 use Rattle.ion.specs.Value.Encode.{offset_bytes, varuints, field_list, field_count, fraction_bytes, body_from}
 use Rattle.ion.specs.Value.Decode.{signed_offset, offset_from, decode_offset, one_more, field_from, decode_fields}
 use Rattle.ion.specs.Value.Decode.{coefficient_from, fraction_from, decode_fraction, first_values, filled, is_field_count, precision_with}
@@ -72,7 +73,7 @@ record FieldsIs (n : ℕ) (s l t : List ℕ) : Type 0 where
   small : Below 16384 l
 
 fields_is : (n : ℕ) (s l r : List ℕ) → Below 256 s → decode_fields n s ≡ Some (l, r) → FieldsIs n s l r
-unfolding decode_fields varuints
+unfolding decode_fields in_turn
 fields_is zero s l r h e =
     found_one (λ (p : List ℕ × List ℕ). FieldsIs zero s p.0 p.1) e
     (record { bytes = refl; most = omega arith; fewer = λ q. absurd (omega arith); small = below_none 16384 (lit< tt) })

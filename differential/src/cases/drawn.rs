@@ -167,6 +167,8 @@ fn any_months(cases: &mut impl Cases, random: &mut Random) {
     cases.month_length(year, random.below(15) as u32);
     cases.month_length(year, random.any_size() as u32);
     cases.month_length(random.any_size() as u32, random.below(15) as u32);
+    cases.year_start(year);
+    cases.year_start(random.any_size() as u32);
 }
 
 /// A pair of the year 1 or 9999, or of its neighbour; most of their offsets leave the years' range.

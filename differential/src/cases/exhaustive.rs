@@ -17,6 +17,7 @@ pub fn sections<'a, C: Cases + 'a>() -> Vec<Section<'a, C>> {
         ("short bodies", Box::new(short_bodies)),
         ("numbers of every length", Box::new(number_lengths)),
         ("every month's length", Box::new(month_lengths)),
+        ("every year's start", Box::new(year_starts)),
     ]
 }
 
@@ -314,4 +315,14 @@ fn month_lengths(cases: &mut impl Cases) {
             cases.month_length(year, month);
         }
     }
+}
+
+/// Every year of 16 bits, and years around each power of two.
+fn year_starts(cases: &mut impl Cases) {
+    (0..=u16::MAX as u32).for_each(|year| cases.year_start(year));
+    for bit in 16..32 {
+        let power = 1u32 << bit;
+        [power - 1, power, power + 1].into_iter().for_each(|year| cases.year_start(year));
+    }
+    cases.year_start(u32::MAX);
 }

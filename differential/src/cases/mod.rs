@@ -37,6 +37,7 @@ pub trait Cases {
     fn zero_padded(&mut self, value: u64, width: usize);
     fn shift(&mut self, time: DateTime, offset: i32);
     fn month_length(&mut self, year: u32, month: u32);
+    fn year_start(&mut self, year: u32);
 
     /// Building, and the pair that comes of it.
     fn build_and_use(&mut self, build: &Build) {

@@ -5,6 +5,7 @@ use crate::calls::*;
 use crate::cases::Cases;
 use crate::differences::{self, Listed};
 use crate::expected::{self, Expected};
+use crate::model::calendar;
 use crate::oracle::{self, Answer};
 use crate::refusals::SHORT_BUFFER;
 use std::fmt::Debug;
@@ -243,6 +244,11 @@ impl<L: Library> Cases for Run<'_, L> {
         };
         let answer = self.library.days_in_month(year, month);
         self.judge("days_in_month", || format!("month {month} of year {year}"), expected, answer);
+    }
+
+    fn year_start(&mut self, year: u32) {
+        self.case();
+        self.judge("year_start", || year.to_string(), Ok(calendar::year_start(year)), self.library.year_start(year));
     }
 }
 

@@ -222,6 +222,10 @@ impl Library for Model {
     fn days_in_month(&self, year: u32, month: u32) -> u32 {
         calendar::days_in_month(year, month)
     }
+
+    fn year_start(&self, year: u32) -> u64 {
+        calendar::year_start(year)
+    }
 }
 
 /// The fields in UTC beside the offset, as a value's body has them.

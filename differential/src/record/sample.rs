@@ -187,6 +187,7 @@ impl Cases for Sample {
 
     fn shift(&mut self, _time: DateTime, _offset: i32) {}
     fn month_length(&mut self, _year: u32, _month: u32) {}
+    fn year_start(&mut self, _year: u32) {}
 }
 
 fn answered<T>(expected: Expected<T>) -> T {

@@ -45,6 +45,8 @@ enum Fault {
     /// Month lengths with one for month 13, or for year 10001.
     ThirteenMonths,
     OneYearMore,
+    /// A year 10000 that begins a day early.
+    ADayLess,
     /// A reader of texts that leaves what follows.
     ReadsABeginning,
     /// One that takes -00:00 for a known offset.
@@ -79,7 +81,7 @@ enum Fault {
     Report(Option<wrong_reports::Fault>),
 }
 
-const ALL: [Fault; 40] = [
+const ALL: [Fault; 41] = [
     Fault::ReadsNothing,
     Fault::TakesMore,
     Fault::DropsTheSecond,
@@ -105,6 +107,7 @@ const ALL: [Fault; 40] = [
     Fault::NoDayMoved,
     Fault::ThirteenMonths,
     Fault::OneYearMore,
+    Fault::ADayLess,
     Fault::ReadsABeginning,
     Fault::ReadsUnknownAsZero,
     Fault::FewDigitsOnly,
@@ -350,6 +353,13 @@ impl Library for Wrong {
             (Fault::ThirteenMonths, _, 13) => Model.days_in_month(year, 1),
             (Fault::OneYearMore, 10_001, _) => Model.days_in_month(1, month),
             _ => Model.days_in_month(year, month),
+        }
+    }
+
+    fn year_start(&self, year: u32) -> u64 {
+        match (self.0, year) {
+            (Fault::ADayLess, 10_000) => Model.year_start(year) - 1,
+            _ => Model.year_start(year),
         }
     }
 }

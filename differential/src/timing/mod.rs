@@ -168,6 +168,12 @@ fn month_length((year, month): (u32, u32)) -> u32 {
     }
 }
 
+/// The days before a year, as a user would count them: 365 for each year, and one for each leap year.
+fn year_start(year: u32) -> u64 {
+    let year = year as u64;
+    365 * year + year.div_ceil(4) - year.div_ceil(100) + year.div_ceil(400)
+}
+
 fn write_value(stamp: &Timestamp, mut buffer: &mut [u8]) -> usize {
     buffer.encode_timestamp_value(stamp).expect("64 bytes are enough")
 }
@@ -313,6 +319,11 @@ fn rows<'a, L: Library>(library: &'a L, inputs: &'a Inputs) -> Vec<Row<'a>> {
                 timed(|at| opened::days_in_month(months[at].0 as u16, months[at].1 as u8)),
                 timed(|at| library.days_in_month(months[at].0, months[at].1)),
             ],
+        ),
+        // The Rust's side is the closed form written by hand.
+        Row::new(
+            "year start",
+            [timed(|at| year_start(months[at].0)), None, timed(|at| library.year_start(months[at].0))],
         ),
     ]
 }

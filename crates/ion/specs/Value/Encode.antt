@@ -7,6 +7,7 @@ use Rattle.ion.specs.Pair.Offset.{offset_of}
 use Rattle.ion.specs.Pair.Word.{fields_of}
 use Rattle.ion.specs.Pair.Pair.{word_in}
 use Rattle.ion.specs.Pair.Fraction.{scale}
+use Rattle.ion.specs.Calls.Contents.{in_turn}
 use Rattle.ion.specs.Calls.Utc.{utc_fields}
 use Rattle.ion.specs.declared.Fields.{Fields}
 use Rattle.ion.specs.declared.offset.OffsetMinutes.{OffsetMinutes}
@@ -17,9 +18,8 @@ unfoldable pub offset_bytes : Option OffsetMinutes → List ℕ
 offset_bytes None = signed true 0
 offset_bytes (Some m) = varint m.0
 
-unfoldable pub varuints : List ℕ → List ℕ
-varuints [] = []
-varuints (v ∷ l) = varuint v ++ varuints l
+abbrev pub varuints : List ℕ → List ℕ
+varuints l = in_turn varuint l
 
 abbrev pub field_list : Fields → List ℕ
 field_list f = f.year ∷ f.month ∷ f.day ∷ f.hour ∷ f.minute ∷ f.second ∷ []
