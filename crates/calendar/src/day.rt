@@ -31,7 +31,7 @@ pub fn year_start(year: u32) -> u64
 // By month, 1 being January: the days before it in a year that is no leap year.
 const MONTH_STARTS: [u16; 13] = [0, 0, 31, 59, 90, 120, 151, 181, 212, 243, 273, 304, 334];
 
-// The number of a day. From March on it is counted from the next year's start, before which so many days of every year are left.
+// The number of a day. From March on as many days are left in every year, and it is counted from the next year's start.
 #[tactic(auto, using(crate::proofs::Dates::numbers))]
 pub fn day_number(date: Date) -> u64
     requires { (date.year ≤ 9999) × IsDate date }
