@@ -34,19 +34,12 @@ fn list(buf: &mut [u8]) -> usize
     end
 }
 
-// Eight bytes for each of 10,001 lines.
-fn output_room() -> [u8; 80_008]
-    ensures { 80_008 ≡ length result }
-{
-    input::zeros()
-}
-
-// Writes the lines of all years.
+// Writes the lines of all years: of 10,001, each has eight bytes at most.
 #[tactic(auto, using(crate::proofs::Lines::listing_length))]
 pub fn run<W: Write>(writer: &mut W) -> io::Result<()>
     ensures { OnOk result (Appends (W.contents writer.old) (W.contents writer.new) year_lines) }
 {
-    let mut output = output_room();
+    let mut output = input::zeros::<80_008>();
     let end = list(&mut output);
     writer.write_all(&output[..end])
 }

@@ -43,10 +43,12 @@ static YEAR_STARTS: LazyLock<Vec<i64>> = LazyLock::new(|| {
     starts
 });
 
-/// The days before a year: as many in each 400 years as in the first.
+/// The days before a year; past the years summed, by as many in each 400 years as in the first.
 pub fn year_start(year: u32) -> u64 {
-    let days_in_400_years = YEAR_STARTS[400] as u64;
-    (year / 400) as u64 * days_in_400_years + YEAR_STARTS[(year % 400) as usize] as u64
+    match YEAR_STARTS.get(year as usize) {
+        Some(start) => *start as u64,
+        None => (year / 400) as u64 * YEAR_STARTS[400] as u64 + YEAR_STARTS[(year % 400) as usize] as u64,
+    }
 }
 
 /// Minutes from 0000-01-01T00:00.
