@@ -23,9 +23,9 @@ change() { # PLACE VALUE: a copy with another byte there
 od -An -v -tu1 "$file" | awk '
     { for (i = 1; i <= NF; i++) b[n++] = $i }
     END {
-        split("48 16 16 32 16 16 0 32 9 9 10 0 0 24 0 10", from)
+        split("48 16 16 32 16 16 0 32 9 9 10 0 0 24 0 10 0", from)
         # Where the answer stands before a run of bytes, its end; where a length stands in it, that place.
-        end[7] = 18; end[12] = 17; end[13] = 26; end[15] = 2; end[16] = 64
+        end[7] = end[17] = 18; end[12] = 17; end[13] = 26; end[15] = 2; end[16] = 64
         length_at[5] = length_at[6] = 17; length_at[14] = 25
         for (at = 0; at < n; at += 2 + b[at + 1]) {
             kind = b[at]
@@ -65,13 +65,13 @@ head -c 5 "$file" >"$work/damaged"
 none; judge 'a cut source'
 tail -c "+$((start + 1))" "$file" >"$work/damaged"
 none; judge 'a case before any source'
-(cat "$file"; head -c $((262144 - size)) /dev/zero) >"$work/damaged"
-none; judge '262,144 bytes'
+(cat "$file"; head -c $((524288 - size)) /dev/zero) >"$work/damaged"
+none; judge '524,288 bytes'
 head -c "$start" "$file" >"$work/damaged"
 at_first; judge 'a source alone'
 head -c "$((start + 9))" "$file" >"$work/damaged"
 at_first; judge 'a cut case'
-change "$second" 17 >"$work/damaged"
+change "$second" 18 >"$work/damaged"
 at_second; judge 'an unknown kind'
 change $((second + 1)) 64 >"$work/damaged"
 at_second; judge 'a wrong length'

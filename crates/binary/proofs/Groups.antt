@@ -13,9 +13,10 @@ use lib.ListN.{length, take, drop, set, get_or}
 use lib.Seq.{length-take-le, drop-cons, set_at}
 use Rattle.std.proofs.Common.{drop_of_length-le}
 use Rattle.places.specs.Places.{plain, byte_from, places_on, places, value_from}
-use Rattle.places.proofs.Laws.{zero_byte, length_places, places_append, places_add, value_on}
+use Rattle.places.proofs.Laws.{zero_byte, length_places, places_append, value_on}
 use Rattle.places.proofs.Below.{Below, below_none, below_cons}
 use Rattle.places.proofs.Values.{place_more}
+use Rattle.places.proofs.FirstPlace.{places_first}
 use Rattle.ion.specs.Numbers.VarUInt.{groups, up_to, scan_from}
 use Rattle.std.specs.Prelude.{Result, Ok, Err}
 use Rattle.ion.specs.declared.number.NumberError.TheVariants.{Cut, Bad}
@@ -40,10 +41,8 @@ pub groups_more : (n m : ℕ) → groups (suc (suc n)) m ≡ (m / 128 ^ suc n % 
 unfolding groups places_on
 groups_more n m =
     let t = (128 + m % 128) ∷ [] in
-    let e : 1 + n ≡ suc n = omega arith in
     let f : m / 128 / 128 ^ n ≡ m / 128 ^ suc n = div-div-eq-div-mul m 128 (128 ^ n) ∙ ap (λ (x : ℕ). m / x) (sym (pow-succ' 128 n)) in
-    ap (λ (k : ℕ). places_on 128 plain k (m / 128) t) (sym e)
-    ∙ places_add 128 (lit< tt) plain 1 n (m / 128) t
+    places_first 128 (lit< tt) plain n (m / 128) t
     ∙ ap (λ (x : ℕ). x % 128 ∷ places_on 128 plain n (m / 128) t) f
 
 pub length_groups : (n m : ℕ) → length (groups n m) ≡ n
@@ -246,6 +245,27 @@ scan_gives l (suc n) v k (c ∷ r) m j e = go (scan_gives l n w (k + 1) r m j) (
         let p = ok_pair e in
         rw (← p.0, ← p.1) (scanned_last l v k c w r refl (leb-true 128 c f) (ltb-false l w g))
     go ih false u f g e = scanned_more l v k c w r m j refl (leb-false 128 c f) (ih e)
+
+-- from the first byte on, all bytes are those of what is found and the rest
+pub scanned_bytes : {l m j : ℕ} {s : List ℕ} → Below 256 s → Scanned l 0 0 s m j → s ≡ groups j m ++ drop j s
+unfolding places_on
+scanned_bytes {l} {m} {j} {s} h f = let z : j - 0 ≡ j = omega arith in rw z at (f.bytes h)
+
+-- no more bytes than there may be
+pub scan_most : (l n v k : ℕ) (s : List ℕ) (m j : ℕ) → scan_from l n v k s ≡ Ok (m, j) → j ≤ k + n
+unfolding scan_from
+scan_most l zero v k s m j e = absurd (cc)
+scan_most l (suc n) v k [] m j e = absurd (cc)
+scan_most l (suc n) v k (c ∷ r) m j e = go (scan_most l n w (k + 1) r m j) (leb 128 c) (ltb l w) e
+  where
+    w : ℕ
+    w = v * 128 + c % 128
+
+    go : (scan_from l n w (k + 1) r ≡ Ok (m, j) → j ≤ k + 1 + n) → (t u : Bool)
+        → cond t (cond u (Err Bad) (Ok (w, k + 1))) (scan_from l n w (k + 1) r) ≡ Ok (m, j) → j ≤ k + suc n
+    go ih true true e = absurd (cc)
+    go ih true false e = omega (arith, (ok_pair e).1)
+    go ih false u e = omega (arith, ih e)
 
 -- ---- what a scan has met that finds nothing: n bytes without a mark, or a number above l at one
 

@@ -30,7 +30,7 @@ bytes_int m n e = ap₂ (λ (f : ℕ → ℕ) (k : ℕ). places 256 f k m) zero_
 
 -- ---- the shortest form: its bytes hold the number and a clear bit in front, and no fewer do
 
-int_held : (m : ℕ) → 2 * m < 256 ^ int_count m
+pub int_held : (m : ℕ) → 2 * m < 256 ^ int_count m
 unfolding int_count
 int_held m = count_holds 256 (lit< tt) (2 * m)
 

@@ -4,7 +4,6 @@ use mathlib.Core.Path.{◌≡◌, refl, sym, ap, ◌∙◌}
 use mathlib.Core.Bool.{Bool, true, false, cond}
 use mathlib.Core.List.{List, [], ◌∷◌, ◌++◌}
 use Prim.Native.Nat.{ℕ, zero, suc, ◌+◌, ◌-◌, ◌*◌, ◌/◌, ◌%◌, ◌^◌, ◌≤◌, ◌<◌}
-use native.Mathlib.Nat.{pow-succ', div-lt_iff_lt-mul, one-le-pow}
 use native.Mathlib.Omega.{arith}
 use borrow.Author.Tests.{le-ltb, le-leb, lt-leb, eq-eqb, leb-true, leb-false, eqb-true}
 use lib.Count.{count_leading_zeros}
@@ -14,7 +13,6 @@ use mir.Facts.{to_z-of_z}
 use lib.ListN.{length, take, drop, set, get_or}
 use lib.Seq.{drop-cons}
 use Rattle.std.proofs.Common.{add-one, drop_of_length-le}
-use Rattle.places.specs.Places.{places_on}
 use Rattle.places.proofs.Laws.{held, place_monotone}
 use Rattle.places.proofs.Slices.{rest_slice}
 use Rattle.places.proofs.Below.{Below, below_cons}
@@ -26,12 +24,14 @@ use Rattle.std.specs.Prelude.{Result, Ok, Err}
 use Rattle.ion.specs.declared.number.NumberError.{NumberError}
 use Rattle.ion.specs.declared.number.NumberError.TheVariants.{Cut, Bad}
 use Rattle.ion.specs.declared.number.SignedMagnitude.{SignedMagnitude}
-use Rattle.binary.proofs.Groups.{ok_pair, groups_one, groups_more, length_groups, scan_more, scan_last, scan_groups, Scanned, scan_gives}
+use Rattle.places.proofs.FirstPlace.{first_below}
+use Rattle.binary.proofs.Groups.{ok_pair, groups_one, groups_more, length_groups, scan_more, scan_last, scan_groups}
+use Rattle.binary.proofs.Groups.{Scanned, scan_gives, scanned_bytes}
 use Rattle.binary.proofs.VarUInts.{count_shortest, count_some}
 
 -- ---- how many bytes a magnitude and its sign have: they hold both, and no fewer do
 
-signed_held : (m : ℕ) → 2 * m < 128 ^ signed_count m
+pub signed_held : (m : ℕ) → 2 * m < 128 ^ signed_count m
 unfolding signed_count
 signed_held m = held 128 (lit< tt) (2 * m)
 
@@ -51,7 +51,7 @@ signed_monotone : (m l : ℕ) → m ≤ l → signed_count m ≤ signed_count l
 unfolding signed_count
 signed_monotone m l h = place_monotone 128 (lit< tt) (2 * m) (2 * l) (omega arith)
 
-length_sign : (g : Bool) (s : List ℕ) → length (sign_first g s) ≡ length s
+pub length_sign : (g : Bool) (s : List ℕ) → length (sign_first g s) ≡ length s
 length_sign false s = refl
 length_sign true [] = refl
 length_sign true (b ∷ r) = refl
@@ -69,19 +69,16 @@ pub record SignFree (s : List ℕ) : Type 0 where
   pub below : byte < 192
   free : byte % 128 < 64
 
-free_in : (n m : ℕ) → 2 * m < 128 ^ suc n → SignFree (groups (suc n) m)
-free_in zero m h = record { byte = 128 + m % 128; rest = []; is = groups_one m; below = omega arith; free = omega arith }
-free_in (suc n) m h =
+free_in : (n m : ℕ) → 0 < n → 2 * m < 128 ^ n → SignFree (groups n m)
+free_in zero m z h = absurd (omega arith)
+free_in (suc zero) m z h = record { byte = 128 + m % 128; rest = []; is = groups_one m; below = omega arith; free = omega arith }
+free_in (suc (suc n)) m z h =
     let p = 128 ^ suc n in
-    let q : m / p < 64 = (div-lt_iff_lt-mul (one-le-pow (suc n) 128 (lit< tt))).1 (omega (arith, pow-succ' 128 (suc n))) in
+    let q : m / p < 64 = first_below 64 (suc n) m (lit< tt) h in
     record { byte = m / p % 128; rest = groups (suc n) m; is = groups_more n m; below = omega arith; free = omega arith }
 
 pub sign_free : (m : ℕ) → SignFree (groups (signed_count m) m)
-sign_free m = go (signed_count m) (signed_some m) (signed_held m)
-  where
-    go : (n : ℕ) → 0 < n → 2 * m < 128 ^ n → SignFree (groups n m)
-    go zero z h = absurd (omega arith)
-    go (suc n) z h = free_in n m h
+sign_free m = free_in (signed_count m) m (signed_some m) (signed_held m)
 
 -- what the groups become with their sign
 module _ (g : Bool) (m n : ℕ) (e : n ≡ length (signed g m)) where
@@ -101,20 +98,28 @@ module _ (g : Bool) (m n : ℕ) (e : n ≡ length (signed g m)) where
 
 pub ruleset signs = (length_signed, signed_some, signed_u64, groups_sign, groups_plus, groups_plain)
 
-sign_append : (g : Bool) (b : ℕ) (t r : List ℕ) → sign_first g (b ∷ t) ++ r ≡ sign_first g (b ∷ (t ++ r))
-sign_append false b t r = refl
-sign_append true b t r = refl
+sign_append : (g : Bool) (s r : List ℕ) → 0 < length s → sign_first g s ++ r ≡ sign_first g (s ++ r)
+sign_append g [] r h = absurd (omega arith)
+sign_append false (b ∷ t) r h = refl
+sign_append true (b ∷ t) r h = refl
 
--- a byte that was given its sign is read as it was, and with that sign
-sign_read : (l : ℕ) (g : Bool) (b : ℕ) (t : List ℕ) → b % 128 < 64
-    → read_var_int l (sign_first g (b ∷ t)) ≡ if_shortest g (scan_from l (signed_count l) 0 0 (b ∷ t))
-unfolding read_var_int
-sign_read l false b t h =
-    let e : unsign b ≡ b = omega arith in
-    rw (e, lt-leb 64 (b % 128) h)
-sign_read l true b t h =
-    let e : unsign (b + 64) ≡ b = omega arith in
-    rw (e, le-leb 64 ((b + 64) % 128) (omega arith))
+-- a first byte that was given its sign is read as it was, and with that sign, by a reader that takes both apart
+module _ {A : Type 0} (read : List ℕ → A) (read_with : Bool → List ℕ → A)
+    (apart : (b : ℕ) (r : List ℕ) → read (b ∷ r) ≡ read_with (leb 64 (b % 128)) (unsign b ∷ r)) where
+  first_read : (g : Bool) (b : ℕ) (r : List ℕ) → b % 128 < 64 → read (sign_first g (b ∷ r)) ≡ read_with g (b ∷ r)
+  first_read false b r h = let e : unsign b ≡ b = omega arith in apart b r ∙ rw (e, lt-leb 64 (b % 128) h)
+  first_read true b r h =
+      let e : unsign (b + 64) ≡ b = omega arith in
+      apart (b + 64) r ∙ rw (e, le-leb 64 ((b + 64) % 128) (omega arith))
+
+  pub sign_read : (g : Bool) (n m : ℕ) (r : List ℕ) → 0 < n → 2 * m < 128 ^ n
+      → read (sign_first g (groups n m) ++ r) ≡ read_with g (groups n m ++ r)
+  sign_read g n m r z h =
+      let f = free_in n m z h in
+      ap read (sign_append g (groups n m) r (omega (arith, length_groups n m)))
+      ∙ ap (λ (x : List ℕ). read (sign_first g (x ++ r))) f.is
+      ∙ first_read g f.byte (f.rest ++ r) f.free
+      ∙ ap (λ (x : List ℕ). read_with g (x ++ r)) (sym f.is)
 
 -- and one that was read is itself again with its sign
 sign_again : (g : Bool) (c : ℕ) (r : List ℕ) → c < 256 → leb 64 (c % 128) ≡ g → sign_first g (unsign c ∷ r) ≡ c ∷ r
@@ -125,21 +130,26 @@ sign_again true c r h e =
     let k = leb-true 64 (c % 128) e in
     ap (λ (x : ℕ). x ∷ r) (let f : unsign c + 64 ≡ c = omega arith in f)
 
+pub sign_bytes : (g : Bool) (c m j : ℕ) (r : List ℕ) → c < 256 → leb 64 (c % 128) ≡ g → 0 < j
+    → (unsign c ∷ r) ≡ groups j m ++ drop j (unsign c ∷ r) → (c ∷ r) ≡ sign_first g (groups j m) ++ drop j (c ∷ r)
+sign_bytes g c m zero r h eg z e = absurd (omega arith)
+sign_bytes g c m (suc i) r h eg z e =
+    sym (sign_again g c r h eg)
+    ∙ ap (sign_first g) e
+    ∙ sym (sign_append g (groups (suc i) m) (drop i r) (omega (arith, length_groups (suc i) m)))
+
 -- ---- the shortest form is read back, whatever follows it
 
 pub read_signed : (l : ℕ) (g : Bool) (m : ℕ) (r : List ℕ) → m ≤ l
     → read_var_int l (signed g m ++ r) ≡ Ok (signed_magnitude g m, length (signed g m))
-unfolding signed
+unfolding signed read_var_int
 read_signed l g m r h =
     let n = signed_count m in
-    let f = sign_free m in
     let s : scan_from l (signed_count l) 0 0 (groups n m ++ r) ≡ Ok (m, n) =
     scan_groups l (signed_count l) n m r (signed_some m) (signed_monotone m l h) (omega (arith, signed_held m)) ∙ rw (le-ltb l m h)
     in
-    ap (λ (x : List ℕ). read_var_int l (sign_first g x ++ r)) f.is
-    ∙ ap (read_var_int l) (sign_append g f.byte f.rest r)
-    ∙ sign_read l g f.byte (f.rest ++ r) f.free
-    ∙ ap (λ (x : List ℕ). if_shortest g (scan_from l (signed_count l) 0 0 (x ++ r))) (sym f.is)
+    let read_with = λ (s : Bool) (x : List ℕ). if_shortest s (scan_from l (signed_count l) 0 0 x) in
+    sign_read (read_var_int l) read_with (λ b t. refl) g n m r (signed_some m) (signed_held m)
     ∙ ap (if_shortest g) s
     ∙ (rw (eq-eqb n n refl))
     ∙ ap (λ (k : ℕ). Ok (signed_magnitude g m, k)) (sym (length_signed g m))
@@ -186,29 +196,15 @@ read_signed_within l (c ∷ r) g m j e =
     let f = (opened l c r g m j e).1 in
     (f.some, omega (arith, f.within))
 
-signed_bytes : (g : Bool) (c m j : ℕ) (r : List ℕ) → c < 256 → leb 64 (c % 128) ≡ g → signed_count m ≡ j → 0 < j
-    → (unsign c ∷ r) ≡ groups j m ++ drop j (unsign c ∷ r) → (c ∷ r) ≡ signed g m ++ drop j (c ∷ r)
-unfolding signed
-signed_bytes g c m zero r h eg n z e = absurd (omega arith)
-signed_bytes g c m (suc j) r h eg n z e =
-    let f = sign_free m in
-    let d = drop j r in
-    let b : groups (suc j) m ≡ f.byte ∷ f.rest = ap (λ (k : ℕ). groups k m) (sym n) ∙ f.is in
-    sym (sign_again g c r h eg)
-    ∙ ap (sign_first g) (e ∙ ap (λ (x : List ℕ). x ++ d) b)
-    ∙ sym (sign_append g f.byte f.rest d)
-    ∙ ap (λ (x : List ℕ). sign_first g x ++ d) (sym f.is)
-
 pub read_signed_is : (l : ℕ) (s : List ℕ) (g : Bool) (m j : ℕ) → Below 256 s → read_var_int l s ≡ Ok (signed_magnitude g m, j)
     → (m ≤ l) × (j ≡ signed_count m) × (s ≡ signed g m ++ drop j s)
-unfolding read_var_int places_on
+unfolding read_var_int signed
 read_signed_is l [] g m j h e = absurd (cc)
 read_signed_is l (c ∷ r) g m j h e =
     let o = opened l c r g m j e in
     let f = o.1 in
-    let z : j - 0 ≡ j = omega arith in
     let b = below_cons 256 (unsign c) r (omega (arith, h 0)) (λ i. h (suc i)) in
-    (f.limited, sym o.2, signed_bytes g c m j r (h 0) o.0 o.2 f.some (rw z at (f.bytes b)))
+    (f.limited, sym o.2, rw o.2 (sign_bytes g c m j r (h 0) o.0 f.some (scanned_bytes b f)))
 
 -- ---- the reader's steps, by the first byte
 

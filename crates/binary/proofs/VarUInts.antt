@@ -11,7 +11,6 @@ use borrow.Author.Tests.{lt-ltb, le-ltb, ne_eqb, ltb-false}
 use lib.Count.{count_leading_zeros}
 use lib.Dec.{eqb, ltb, lit<}
 use lib.ListN.{length, take, drop, length-append}
-use Rattle.places.specs.Places.{places_on}
 use Rattle.places.proofs.Laws.{held, fewest, place_some, place_monotone, place_is}
 use Rattle.places.proofs.Below.{Below}
 use Rattle.places.proofs.Bits.{zeros_places}
@@ -19,7 +18,7 @@ use Rattle.ion.specs.Numbers.VarUInt.{groups, group_count, varuint, scan_from, z
 use Rattle.std.specs.Prelude.{Ok, Err}
 use Rattle.ion.specs.declared.number.NumberError.TheVariants.{Cut, Bad}
 use Rattle.std.proofs.Common.{drop_of_length-le}
-use Rattle.binary.proofs.Groups.{scan_none, groups_one, groups_more, length_groups, scan_groups, Scanned, scan_gives}
+use Rattle.binary.proofs.Groups.{scan_none, groups_one, groups_more, length_groups, scan_groups, Scanned, scan_gives, scanned_bytes}
 use Rattle.binary.proofs.Groups.{scan_cut, cut_scan, Missed, unmarked, above, scan_unmarked, scan_missed}
 
 -- ---- how many groups a number has: its groups hold it, and no fewer do
@@ -135,13 +134,12 @@ opened l s m j e = go (zero_first s) refl e
 
 pub read_varuint_is : (l : ℕ) (s : List ℕ) (m j : ℕ) → Below 256 s → read_var_uint l s ≡ Ok (m, j)
     → (m ≤ l) × (j ≡ group_count m) × (s ≡ varuint m ++ drop j s)
-unfolding varuint places_on
+unfolding varuint
 read_varuint_is l s m j g e =
     let o = opened l s m j e in
     let f = o.1 in
     let h = f.held (lit< tt) in
-    let z : j - 0 ≡ j = omega arith in
-    let b : s ≡ groups j m ++ drop j s = rw z at (f.bytes g) in
+    let b = scanned_bytes g f in
     let u : ltb (group_count m) j ≡ false = sym (zero_first_padded j m (drop j s) f.some h) ∙ ap zero_first (sym b) ∙ o.0 in
     let n : j ≡ group_count m = omega (arith, ltb-false (group_count m) j u, fewest 128 (lit< tt) j m f.some h) in
     (f.limited, n, b ∙ ap (λ (k : ℕ). groups k m ++ drop j s) n)
@@ -171,14 +169,12 @@ read_bad l s u = from u
         scanned (ap (scan_from l (group_count l) 0 0) e ∙ found) (zero_first s)
 
 pub bad_read : (l : ℕ) (s : List ℕ) → Below 256 s → read_var_uint l s ≡ Err Bad → Unreadable l s
-unfolding read_var_uint places_on
+unfolding read_var_uint
 bad_read l s b e = go (zero_first s) refl e
   where
     from : Missed l (group_count l) 0 0 s → Unreadable l s
     from (unmarked h c) = endless h c
-    from (above m j h i f) =
-        let z : j - 0 ≡ j = omega arith in
-        too_large m j (drop j s) h f.some (omega arith) (f.held (lit< tt)) (rw z at (f.bytes b))
+    from (above m j h i f) = too_large m j (drop j s) h f.some (omega arith) (f.held (lit< tt)) (scanned_bytes b f)
 
     go : (t : Bool) → zero_first s ≡ t → cond t (Err Bad) (scan_from l (group_count l) 0 0 s) ≡ Err Bad → Unreadable l s
     go true f e = padded f

@@ -10,7 +10,7 @@ use ion::{NumberError, Refusal, SignedMagnitude};
 use output::Encode;
 
 // The bit that marks a negative number, in the first byte.
-const SIGN: u8 = 0b0100_0000;
+pub const SIGN: u8 = 0b0100_0000;
 
 // Which no i64 is.
 pub const NEGATIVE_ZERO: SignedMagnitude = SignedMagnitude {

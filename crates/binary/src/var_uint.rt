@@ -2,7 +2,8 @@
 ghost use Rattle.std.specs.Prelude.{◌≡◌, ◌+◌, ◌-◌, ◌*◌, ◌%◌, ◌^◌, ◌≤◌, ◌<◌, length, drop};
 ghost use Rattle.ion.specs.Calls.Output.{put, wrote, Run};
 ghost use Rattle.ion.specs.Numbers.VarUInt.{groups, group_count, varuint, up_to, scan_from, zero_first, read_var_uint};
-ghost use Rattle.ion.specs.Numbers.NumberReads.{var_uint_answer, var_uint_of};
+ghost use Rattle.ion.specs.Numbers.PaddedNumbers.{read_padded_var_uint};
+ghost use Rattle.ion.specs.Numbers.NumberReads.{var_uint_answer, var_uint_of, padded_var_uint_of};
 
 use ion::{NumberError, Refusal};
 use output::Encode;
@@ -123,4 +124,18 @@ pub fn read_u64(s: &[u8], at: usize, limit: u64) -> Result<(u64, usize), NumberE
         return Err(NumberError::Bad);
     }
     read_groups(rest, 0, 0, encoded_size_of(limit), limit)
+}
+
+// The most bytes of a VarUInt or a VarInt in any form.
+pub const MOST_GROUPS: usize = 10;
+
+// Reads the VarUInt at index `at`, in any form of up to ten bytes and not above `limit`: the number and how many bytes it took.
+#[inline(always)]
+#[tactic(auto, using(crate::proofs::VarUInts::reading), unfolding(ion::specs::Numbers::PaddedNumbers::read_padded_var_uint))]
+pub fn read_padded_u64(s: &[u8], at: usize, limit: u64) -> Result<(u64, usize), NumberError>
+    ensures value { result ≡ read_padded_var_uint limit (drop at s.now) }
+    ensures numbered { var_uint_answer result ≡ padded_var_uint_of limit (drop at s.now) }
+{
+    let rest = s.get(at..).ok_or(NumberError::Cut)?;
+    read_groups(rest, 0, 0, MOST_GROUPS, limit)
 }

@@ -31,8 +31,9 @@ use Rattle.ion.specs.Calls.Order.{cmp_of, eq_of, distance_of}
 use Rattle.ion.specs.Text.Format.{marked, fraction_text, clock_text, minutes_text, offset_text, fields_text, text_of}
 use Rattle.ion.specs.Calls.Contents.{in_turn}
 use Rattle.ion.specs.Value.Encode.{offset_bytes, field_count, fraction_bytes, body_from, body_of, header, value_of}
-use Rattle.ion.specs.Value.Decode.{decode_offset, decode_fields, decode_fraction, filled, precision_with, decode_body, pair_from}
-use Rattle.ion.specs.Value.ReadValue.{same, is_body_of, read_body, read_after, read_length, read_value}
+use Rattle.ion.specs.Value.Decode.{decode_offset, decode_fields, decode_parts, filled, precision_with, decode_fraction, decode_body}
+use Rattle.ion.specs.Value.Decode.{pair_from}
+use Rattle.ion.specs.Value.ReadValue.{read_after, read_by, same, is_body_of, read_body, read_length, read_value}
 use Rattle.ion.specs.declared.BuilderFields.{BuilderFields}
 use Rattle.ion.specs.declared.BuilderOffset.TheVariants.{FromLocalFields}
 use Rattle.ion.specs.declared.Timestamp.{Timestamp}
@@ -199,6 +200,6 @@ unfolding table row date minute sixth at p1 p3 p4 p5 p6 p7 p8 p1_bytes p3_bytes 
     varuint scan_from read_var_uint signed_count signed varint read_var_int int_count int read_int decimal_bytes padded_places is_leap
     month_length_of sum_below word_of fields_of capped build_of build_checks build_pair check_of utc_fields count_of cmp_of eq_of
     distance_of marked fraction_text clock_text minutes_text offset_text fields_text text_of offset_bytes in_turn field_count
-    fraction_bytes body_from body_of header value_of decode_offset decode_fields decode_fraction filled precision_with decode_body pair_from
-    same is_body_of read_body read_after read_length read_value
+    fraction_bytes body_from body_of header value_of decode_offset decode_fields decode_parts decode_fraction filled precision_with
+    decode_body pair_from read_after read_by same is_body_of read_body read_length read_value
 examples = refl

@@ -4,6 +4,7 @@ pub mod InTurn
 pub mod MonthExamples
 pub mod Offsets
 pub mod PaddedExamples
+pub mod PaddedValueExamples
 pub mod Same
 pub mod TextExamples
 pub mod YearExamples

@@ -4,4 +4,5 @@ pub mod VarUInt
 pub mod VarInt
 pub mod Int
 pub mod Decimal
+pub mod PaddedNumbers
 pub mod NumberReads

@@ -2,3 +2,5 @@
 pub mod Encode
 pub mod Decode
 pub mod ReadValue
+pub mod Forms
+pub mod ReadPaddedValue

@@ -3,33 +3,44 @@ use mathlib.Core.Path.{◌≡◌, sym, ap, ◌∙◌}
 use mathlib.Core.List.{List, [], ◌∷◌, ◌++◌}
 use Prim.Native.Nat.{ℕ, ◌+◌, ◌-◌, ◌*◌, ◌≤◌, ◌<◌}
 use native.Mathlib.Omega.{arith}
+use lib.Dec.{lit<}
 use lib.ListN.{length, take, drop}
 use mathlib.Core.Bool.{true, false}
 use Rattle.std.specs.Prelude.{Ok, Err, ◌==◌}
+use Rattle.places.proofs.Below.{Below, below_take, below_drop}
 use Rattle.ion.specs.Calls.Output.{Run}
 use Rattle.ion.specs.Calls.Contents.{in_turn}
 use Rattle.ion.specs.Calls.Stamps.{text_line, stop_line, output_of}
-use Rattle.ion.specs.Value.ReadValue.{read_value}
+use Rattle.ion.specs.Value.ReadPaddedValue.{read_padded_value}
 use Rattle.ion.specs.declared.refusal.Refusal.{Refusal}
 use Rattle.ion.specs.declared.Timestamp.{Timestamp}
 use Rattle.output.proofs.Stores.{length_over}
 use Rattle.output.proofs.Runs.{run_none, run_two, run_is}
 use Rattle.contents.proofs.Passing.{Passed, pass_start, pass_end, pass_stop, length_rest, pass_less, pass_next}
 use Rattle.ion.proofs.InTurn.{in_turn_last}
-use Rattle.value_reader.proofs.Readings.{value_within}
+use Rattle.padded_reader.proofs.PaddedLengths.{padded_within}
 use Rattle.listing.proofs.Lines.{value_advances, output_end, output_stop}
 
 -- the input is values and the bytes left; the values are listed in the first `end` bytes of e, which was d and has room for all
 pub record Listed (input left d e : List ℕ) (end : ℕ) : Type 0 where
   pub stamps : List Timestamp
-  pub passed : Passed read_value input left stamps
+  pub passed : Passed read_padded_value input left stamps
   pub run : Run d 0 (in_turn text_line stamps) e end
   pub few : end + 15 * length left ≤ 15 * length input
   pub room : 15 * length input + 8 ≤ length d
+  pub below : Below 256 input → Below 256 left
 
 pub start : (input d : List ℕ) → 15 * length input + 8 ≤ length d → Listed input input d d 0
 unfolding in_turn
-start input d h = record { stamps = []; passed = pass_start read_value input; run = run_none d 0; few = omega arith; room = h }
+start input d h =
+    record {
+      stamps = [];
+      passed = pass_start read_padded_value input;
+      run = run_none d 0;
+      few = omega arith;
+      room = h;
+      below = λ b. b;
+    }
 
 module _ {input left d e : List ℕ} {end : ℕ} (p : Listed input left d e end) where
   pub last_room : end + 8 ≤ length d
@@ -43,14 +54,14 @@ module _ {input left d e : List ℕ} {end : ℕ} (p : Listed input left d e end)
   finish short h = run_is p.run (sym (output_end input short (pass_end p.passed h)))
 
   -- the last line
-  pub stop : {f : Refusal} → read_value left ≡ Err f → length input ≤ 65536 → (length left == 0) ≡ false
+  pub stop : {f : Refusal} → read_padded_value left ≡ Err f → length input ≤ 65536 → (length left == 0) ≡ false
       → {g : List ℕ} {n : ℕ} → Run e end (stop_line f) g n → n ≤ length d → Run d 0 (output_of input) g n
   stop z short h q l = run_is (run_two p.run q l) (sym (output_stop input short (pass_stop p.passed h z)))
 
   -- one more value
-  module _ {s : Timestamp} {taken : ℕ} (z : read_value left ≡ Ok (s, taken)) where
+  module _ {s : Timestamp} {taken : ℕ} (z : read_padded_value left ≡ Ok (s, taken)) where
     few_next : end + 45 + 15 * (length left - taken) ≤ 15 * length input
-    few_next = omega (arith, p.few, value_within left s taken z)
+    few_next = omega (arith, p.few, padded_within left s taken z)
 
     pub line_room : end + 45 ≤ length d
     line_room = omega (arith, few_next, p.room)
@@ -64,14 +75,15 @@ module _ {input left d e : List ℕ} {end : ℕ} (p : Listed input left d e end)
           run = run_is (run_two p.run q (omega (arith, line_room))) (sym (in_turn_last text_line p.stamps s));
           few = omega (arith, few_next, length_rest left taken);
           room = p.room;
+          below = λ b. below_take 256 (length left - taken) (drop taken left) (lit< tt) (below_drop 256 taken left (p.below b));
         }
 
 -- ---- for the code: a value ends within the bytes, and fewer are left after it
 
-pub ends : (s : List ℕ) {x : Timestamp} {n : ℕ} → read_value s ≡ Ok (x, n) → n ≤ length s
-ends s {x} {n} e = (value_within s x n e).1
+pub ends : (s : List ℕ) {x : Timestamp} {n : ℕ} → read_padded_value s ≡ Ok (x, n) → n ≤ length s
+ends s {x} {n} e = (padded_within s x n e).1
 
-pub less : (s : List ℕ) {x : Timestamp} {n : ℕ} → read_value s ≡ Ok (x, n) → length (take (length s - n) (drop n s)) < length s
+pub less : (s : List ℕ) {x : Timestamp} {n : ℕ} → read_padded_value s ≡ Ok (x, n) → length (take (length s - n) (drop n s)) < length s
 less s e = pass_less value_advances e
 
 pub ruleset listing = (start, next, ends, less)

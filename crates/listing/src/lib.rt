@@ -51,7 +51,7 @@ pub fn list(input: &[u8], buf: &mut [u8]) -> usize
     let mut rest = input;
     let mut end = 0;
     while !rest.is_empty() {
-        match value_reader::read_value(rest) {
+        match padded_reader::read_padded_value(rest) {
             Ok((stamp, taken)) => {
                 end = put_text(buf, end, stamp);
                 rest = &rest[taken..];

@@ -59,7 +59,7 @@ module _ (b : ℕ) where
 
   -- ---- places that are their own bytes
 
-  plain_bytes : (s : List ℕ) → Below b s → Bytes plain plain s
+  pub plain_bytes : (s : List ℕ) → Below b s → Bytes plain plain s
   plain_bytes [] h = tt
   plain_bytes (d ∷ r) h = ((h 0, refl), plain_bytes r (λ i. h (suc i)))
 

@@ -16,8 +16,9 @@ use Rattle.ion.specs.Calls.Check.{check_of}
 use Rattle.ion.specs.Calls.Contents.{contents_from, contents, in_turn}
 use Rattle.ion.specs.Calls.Utc.{utc_fields}
 use Rattle.ion.specs.Value.Encode.{offset_bytes, field_count, fraction_bytes, body_from, body_of, header, value_of}
-use Rattle.ion.specs.Value.Decode.{decode_offset, decode_fields, decode_fraction, filled, precision_with, decode_body, pair_from}
-use Rattle.ion.specs.Value.ReadValue.{same, is_body_of, read_body, read_after, read_length, read_value}
+use Rattle.ion.specs.Value.Decode.{decode_offset, decode_fields, decode_parts, filled, precision_with, decode_fraction, decode_body}
+use Rattle.ion.specs.Value.Decode.{pair_from}
+use Rattle.ion.specs.Value.ReadValue.{same, is_body_of, read_body, read_after, read_by, read_length, read_value}
 use Rattle.ion.specs.declared.Timestamp.{Timestamp}
 use Rattle.scans.specs.Number.{read_number}
 use Rattle.scans.specs.Scan.{scan_of, scan_bytes, read_scan}
@@ -153,8 +154,8 @@ pub report_examples : map (λ (r : Row). r.given) report_rows ≡ map (λ (r : R
 unfolding report_rows clock_word at finer words_at p9_east p9_west year_one tags_below words_below lent reports refuses places_on places
     count_in count place_count value_from groups varuint scan_from read_var_uint signed_count signed varint read_var_int int_count int
     read_int decimal_bytes is_leap month_length_of sum_below word_of fields_of capped count_of build_of build_checks build_pair check_of
-    utc_fields offset_bytes field_count fraction_bytes body_from body_of header value_of decode_offset decode_fields
-    decode_fraction filled precision_with decode_body pair_from same is_body_of read_body read_after read_length read_value contents_from
-    contents in_turn read_number scan_bytes read_scan contents_of file_bytes place_of with_last kind_beside kind_of tally_from words_for
+    utc_fields offset_bytes field_count fraction_bytes body_from body_of header value_of decode_offset decode_fields decode_parts
+    decode_fraction filled precision_with decode_body pair_from read_after read_by same is_body_of read_body read_length read_value
+    contents_from contents in_turn read_number scan_bytes read_scan contents_of file_bytes place_of with_last kind_beside kind_of tally_from words_for
     words_over lent_check file_check report_of words_after
 report_examples = refl

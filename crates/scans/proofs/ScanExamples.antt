@@ -19,8 +19,9 @@ use Rattle.ion.specs.Calls.Check.{check_of}
 use Rattle.ion.specs.Calls.Contents.{contents_from, contents, in_turn}
 use Rattle.ion.specs.Calls.Utc.{utc_fields}
 use Rattle.ion.specs.Value.Encode.{offset_bytes, field_count, fraction_bytes, body_from, body_of, header, value_of}
-use Rattle.ion.specs.Value.Decode.{decode_offset, decode_fields, decode_fraction, filled, precision_with, decode_body, pair_from}
-use Rattle.ion.specs.Value.ReadValue.{same, is_body_of, read_body, read_after, read_length, read_value}
+use Rattle.ion.specs.Value.Decode.{decode_offset, decode_fields, decode_parts, filled, precision_with, decode_fraction, decode_body}
+use Rattle.ion.specs.Value.Decode.{pair_from}
+use Rattle.ion.specs.Value.ReadValue.{same, is_body_of, read_body, read_after, read_by, read_length, read_value}
 use Rattle.std.specs.Prelude.{Result, Ok, Err}
 use Rattle.ion.specs.declared.refusal.Refusal.{Refusal}
 use Rattle.ion.specs.declared.refusal.Refusal.TheVariants as refusal
@@ -182,7 +183,7 @@ unfolding scan_rows row year1 p3 longest most unmarked above first first_bytes s
     damaged filler writes places_on places count_in count place_count value_from groups varuint scan_from read_var_uint
     signed_count signed varint read_var_int int_count int read_int decimal_bytes is_leap month_length_of sum_below word_of fields_of capped
     build_of build_checks build_pair check_of utc_fields offset_bytes field_count fraction_bytes body_from body_of header value_of
-    decode_offset decode_fields decode_fraction filled precision_with decode_body pair_from same is_body_of read_body read_after read_length
-    read_value put room_for put_after wrote_after contents_from contents in_turn read_number scan_bytes scan_check read_scan contents_of
+    decode_offset decode_fields decode_parts decode_fraction filled precision_with decode_body pair_from read_after read_by same
+    is_body_of read_body read_length read_value put room_for put_after wrote_after contents_from contents in_turn read_number scan_bytes scan_check read_scan contents_of
     file_bytes check_file_of
 scan_examples = refl

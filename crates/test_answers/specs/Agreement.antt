@@ -9,7 +9,8 @@ use Rattle.ion.specs.Calls.Utc.{utc_of}
 use Rattle.ion.specs.Calls.Order.{cmp_of, eq_of, ion_cmp_of, ion_eq_of, distance_of, distant}
 use Rattle.ion.specs.Calls.Refusal.{number_in}
 use Rattle.ion.specs.Text.ReadText.{read_text_of}
-use Rattle.ion.specs.Value.ReadValue.{read_value}
+use Rattle.ion.specs.Value.ReadValue.{Reading, read_value}
+use Rattle.ion.specs.Value.ReadPaddedValue.{read_padded_value}
 use Rattle.ion.specs.declared.Timestamp.{Timestamp}
 use Rattle.ion.specs.declared.refusal.Refusal.{Refusal}
 use Rattle.test_field_sets.specs.FieldSets.{unknown_code, built_from}
@@ -72,12 +73,19 @@ distance_agrees r =
     eqb (number_in a) (get_or r 32 0) && eqb (order_byte d.order) (get_or r 33 0)
     && eqb d.seconds (word_at r 34) && eqb d.attoseconds (word_at r 42)
 
--- reading: the input stands after the number, the pair, and how many bytes are taken
-unfoldable pub read_agrees : List ℕ → Bool
-read_agrees r =
-    let a = read_value (drop 19 r) in
+-- what is read: the number, the pair, and how many bytes are taken
+unfoldable pub is_reading : Reading → List ℕ → Bool
+is_reading a r =
     let taken = (result_unwrap_or a (no_stamp, 0)).1 in
-    leb 19 (length r) && is_built (result_map_both (λ x. x.0) (λ e. e) a) r 0 && eqb taken (get_or r 17 0)
+    is_built (result_map_both (λ x. x.0) (λ e. e) a) r 0 && eqb taken (get_or r 17 0)
+
+-- reading: the input stands after the answer
+unfoldable pub read_agrees : List ℕ → Bool
+read_agrees r = leb 19 (length r) && is_reading (read_value (drop 19 r)) r
+
+-- the same of a value in any form
+unfoldable pub padded_read_agrees : List ℕ → Bool
+padded_read_agrees r = leb 19 (length r) && is_reading (read_padded_value (drop 19 r)) r
 
 -- reading a text, which stands after the number and the pair
 unfoldable pub text_agrees : List ℕ → Bool

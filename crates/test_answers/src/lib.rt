@@ -10,4 +10,4 @@ mod read;
 pub use built::{NO_STAMP, build_agrees, check_agrees, utc_agrees};
 pub use fields::{byte_at, half_at, pair_at, word_at};
 pub use orders::{distance_agrees, order_agrees};
-pub use read::{read_agrees, text_agrees};
+pub use read::{padded_read_agrees, read_agrees, text_agrees};

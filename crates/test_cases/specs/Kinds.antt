@@ -23,6 +23,7 @@ kinds =
     ∷ kind.Scan
     ∷ kind.File
     ∷ kind.Report
+    ∷ kind.PaddedRead
     ∷ []
 
 -- the kind of a number; an error for any other
@@ -47,6 +48,7 @@ head_length kind.ScanRead = 27
 head_length kind.Scan = 26
 head_length kind.File = 3
 head_length kind.Report = 65
+head_length kind.PaddedRead = 19
 
 -- whether a run of bytes ends it
 abbrev pub has_run : Kind → Bool
@@ -66,6 +68,7 @@ has_run kind.ScanRead = true
 has_run kind.Scan = true
 has_run kind.File = true
 has_run kind.Report = true
+has_run kind.PaddedRead = true
 
 -- the bytes of the case that begins as r does: the last byte before a run is the run's length
 unfoldable pub case_length : Kind → List ℕ → ℕ

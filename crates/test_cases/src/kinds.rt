@@ -9,8 +9,8 @@ use crate::written::{
     var_uint_agrees,
 };
 use test_answers::{
-    build_agrees, byte_at, check_agrees, distance_agrees, order_agrees, read_agrees, text_agrees,
-    utc_agrees,
+    build_agrees, byte_at, check_agrees, distance_agrees, order_agrees, padded_read_agrees,
+    read_agrees, text_agrees, utc_agrees,
 };
 
 // What is recorded: a call, with what it answered.
@@ -32,6 +32,7 @@ pub enum Kind {
     Scan,
     File,
     Report,
+    PaddedRead,
 }
 
 // The number of no kind.
@@ -62,6 +63,7 @@ impl TryFrom<u8> for Kind {
             14 => Ok(Kind::Scan),
             15 => Ok(Kind::File),
             16 => Ok(Kind::Report),
+            17 => Ok(Kind::PaddedRead),
             _ => Err(UnknownKind),
         }
     }
@@ -77,7 +79,7 @@ impl Kind {
             Kind::Check | Kind::Utc => 33,
             Kind::Order => 37,
             Kind::Text | Kind::Value | Kind::TextRead => 18,
-            Kind::ValueRead => 19,
+            Kind::ValueRead | Kind::PaddedRead => 19,
             Kind::Distance => 50,
             Kind::VarUInt | Kind::VarInt => 9,
             Kind::Padded => 10,
@@ -129,6 +131,7 @@ impl Kind {
             Kind::Scan => scan_bytes_agree(r),
             Kind::File => file_agrees(r),
             Kind::Report => report_agrees(r),
+            Kind::PaddedRead => padded_read_agrees(r),
         }
     }
 }

@@ -4,6 +4,7 @@ ghost use Rattle.ion.specs.Pair.Pair.{packed_pair};
 ghost use Rattle.ion.specs.Calls.Check.{check_of};
 ghost use Rattle.ion.specs.Calls.Output.{put, wrote, put_after, wrote_after};
 ghost use Rattle.ion.specs.Value.ReadValue.{read_value};
+ghost use Rattle.ion.specs.Value.ReadPaddedValue.{read_padded_value};
 ghost use Rattle.ion.specs.Text.Format.{text_of};
 ghost use Rattle.ion.specs.Text.ReadText.{read_text_of};
 ghost use Rattle.ion.specs.Value.Encode.{body_of, value_of};
@@ -64,6 +65,23 @@ pub extern "C" fn timestamp_read(
     ensures { ReadIs (read_value input.now) result word.new attoseconds.new taken.new }
 {
     store_read(value_reader::read_value(input), word, attoseconds, taken)
+}
+
+#[unsafe(no_mangle)]
+pub extern "C" fn timestamp_read_padded(
+    input: &[u8],
+    word: &mut u64,
+    attoseconds: &mut u64,
+    taken: &mut usize,
+) -> u32
+    ensures { ReadIs (read_padded_value input.now) result word.new attoseconds.new taken.new }
+{
+    store_read(
+        padded_reader::read_padded_value(input),
+        word,
+        attoseconds,
+        taken,
+    )
 }
 
 #[unsafe(no_mangle)]

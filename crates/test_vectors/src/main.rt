@@ -9,7 +9,7 @@ mod replay;
 use std::io;
 
 // A file has fewer bytes than this: a longer one is taken for broken.
-const ROOM: usize = 262_144;
+const ROOM: usize = 524_288;
 
 fn main(rt: HostRuntime) -> io::Result<()> {
     let mut file: [u8; ROOM] = input::zeros();

@@ -27,10 +27,11 @@ use Rattle.text_reader.proofs.ReadBack.{text_back, texts_read, texts_inj, text_i
 use Rattle.text_reader.proofs.Exact.{text_exact}
 use Rattle.value_reader.proofs.Values as values
 use Rattle.value_reader.proofs.Readings.{value_apart}
+use Rattle.padded_reader.proofs.PaddedValues.{form_read, form_apart, read_exact, writer_form, shortest_form}
 use Rattle.scans.specs.Scan.{scan_bytes}
 use Rattle.scans.specs.declared.Scan.{Scan}
 use Rattle.scan_laws.proofs.Scans.{Stored, scan_back, scans_apart}
-use Rattle.theorem.specs.TwoStamps.{utc_count, SignOf, Differ, ReadFromTexts, BothOk, TwoStamps}
+use Rattle.theorem.specs.TwoStamps.{utc_count, SignOf, Differ, ReadFromTexts, ReadFromForms, ShortestForm, BothOk, TwoStamps}
 use Rattle.theorem.proofs.UtcCounts.{count_exact, order_sign}
 use Rattle.theorem.proofs.Bytes.{writes, reads_back, text_reads_back, stored, scan_writes, scan_reads_back}
 
@@ -45,6 +46,12 @@ module _ {x y : Scan} (h : Stored x) (k : Stored y) where
 
 from_texts : (s : Timestamp) → Accepted s → ReadFromTexts s
 from_texts s p x = (text_exact s x, texts_read s x p)
+
+from_forms : (s : Timestamp) → ReadFromForms s
+from_forms s x n h e = (read_exact x s n h e).form
+
+form_least : (s : Timestamp) → Accepted s → ShortestForm s
+form_least s p = (writer_form s p, λ x f. let l = shortest_form s p x f in (l.shorter, l.only))
 
 not_same : (s t : Timestamp) → Differ s t → s ≡ t → ⊥
 not_same s t d e = ⊎_elim (λ n. n (ap word_in e)) (λ n. n (ap (λ (x : Timestamp). x.attoseconds) e)) d
@@ -94,11 +101,15 @@ module _ (a b : Timestamp) (p : Accepted a) (q : Accepted b) where
             );
         pair_back = (check_accepts a p, check_accepts b q);
         value_back = (reads_back a p, reads_back b q);
+        forms_back = (form_read a p, form_read b q);
+        forms_exact = (from_forms a, from_forms b);
+        forms_least = (form_least a p, form_least b q);
         text_back = (text_reads_back a p, text_reads_back b q);
         texts_exact = (from_texts a p, from_texts b q);
         scan_back = ((λ t g h k. scan_reads_back (stored a p t g h k)), (λ t g h k. scan_reads_back (stored b q t g h k)));
         same_by_pair = both_by _ (check_accepts a p) (check_accepts b q) (refl, refl, refl);
         same_by_value = λ d e. both_by _ (values.value_back a p d) (values.value_back b q e) (refl, refl, refl);
+        same_by_form = λ x f y g d e. both_by _ (form_read a p x f d) (form_read b q y g e) (refl, refl, refl);
         same_by_text = both_by _ (text_back a p) (text_back b q) (refl, refl, refl);
         same_by_scan = λ t g h k u v i j d e.
             both_by _ (scan_back _ d (stored a p t g h k)) (scan_back _ e (stored b q u v i j)) (refl, refl, refl);
@@ -109,6 +120,9 @@ module _ (a b : Timestamp) (p : Accepted a) (q : Accepted b) where
         texts_apart = λ d s h k. not_same a b d (texts_inj a b s p q h k);
         values_differ = λ d. bytes_differ d (value_apart a b p q);
         no_beginning = λ d. neither_begins d (value_apart a b p q);
+        forms_apart = λ d x f y g.
+            let apart : (u v : List ℕ) → x ++ u ≡ y ++ v → a ≡ b = λ u v e. form_apart a b p q x y u v f g e in
+            (bytes_differ d apart, neither_begins d apart);
         scans_differ = λ d t g h k u v i j. bytes_differ d (scan_stamps (stored a p t g h k) (stored b q u v i j));
         no_scan_beginning = λ d t g h k u v i j. neither_begins d (scan_stamps (stored a p t g h k) (stored b q u v i j));
       }

@@ -1,6 +1,6 @@
 -- What demand 3 says of any two accepted timestamps, sentence by sentence, of the definitions that the contracts cite. Assumes nothing.
 use Rattle.std.specs.Prelude.{◌≡◌, ◌⊎◌, true, List, ◌++◌, ℕ, ◌+◌, ◌*◌, ◌^◌, ◌≤◌}
-use Rattle.std.specs.Prelude.{◌<◌, ℤ, pos, negsuc, nat_abs, ◌-ℤ◌, ◌*ℤ◌, length, take, drop, Result, Ok, IsOk, IsOkAnd, IfOk}
+use Rattle.std.specs.Prelude.{◌<◌, ℤ, pos, negsuc, nat_abs, ◌-ℤ◌, ◌*ℤ◌, length, get_or, take, drop, Result, Ok, IsOk, IsOkAnd, IfOk}
 use Rattle.std.specs.declared.cmp.Ordering.{Ordering}
 use Rattle.std.specs.declared.cmp.Ordering.TheVariants.{Less, Equal, Greater}
 use Rattle.ion.specs.Pair.Pair.{word_in}
@@ -15,6 +15,8 @@ use Rattle.ion.specs.Text.Format.{text_of}
 use Rattle.ion.specs.Text.ReadText.{read_text_of}
 use Rattle.ion.specs.Value.Encode.{value_of}
 use Rattle.ion.specs.Value.ReadValue.{read_value}
+use Rattle.ion.specs.Value.Forms.{Form}
+use Rattle.ion.specs.Value.ReadPaddedValue.{read_padded_value}
 use Rattle.ion.specs.declared.Timestamp.{Timestamp}
 use Rattle.ion.specs.declared.Fields.{Fields}
 use Rattle.ion.specs.declared.refusal.Refusal.{Refusal}
@@ -89,6 +91,23 @@ EachTwo a b P = EachScan a (λ x. EachScan b (λ y. P x y))
 abbrev pub ReadFromTexts : Timestamp → Type 0
 ReadFromTexts s = (x : List ℕ) → (read_text_of x ≡ Ok s → TextFor s x) × (TextFor s x → read_text_of x ≡ Ok s)
 
+-- P holds of every form of the value of the timestamp s
+abbrev pub EachForm : Timestamp → (List ℕ → Type 0) → Type 0
+EachForm s P = (x : List ℕ) → Form s x → P x
+
+-- each form is read back with any bytes or none after it: the pair, and as many taken as the form has
+abbrev pub FormsReadBack : Timestamp → Type 0
+FormsReadBack s = EachForm s (λ x. (r : List ℕ) → read_padded_value (x ++ r) ≡ Ok (s, length x))
+
+-- the bytes that are taken for the timestamp s are one of its forms
+abbrev pub ReadFromForms : Timestamp → Type 0
+ReadFromForms s = (x : List ℕ) (n : ℕ) → ((i : ℕ) → get_or x i 0 < 256) → read_padded_value x ≡ Ok (s, n) → Form s (take n x)
+
+-- the value that is written is a form, no form is shorter, and another is longer
+abbrev pub ShortestForm : Timestamp → Type 0
+ShortestForm s =
+    Form s (value_of s) × EachForm s (λ x. (length (value_of s) ≤ length x) × (length x ≡ length (value_of s) → x ≡ value_of s))
+
 -- both are accepted, and P holds of their values
 abbrev pub BothOk : {A B : Type 0} → Result A Refusal → Result B Refusal → (A → B → Type 0) → Type 0
 BothOk r q P = IsOkAnd r (λ x. IsOkAnd q (λ y. P x y))
@@ -112,6 +131,10 @@ pub record TwoStamps (a b : Timestamp) : Type 0 where
   pub pair_back : (check_of a ≡ Ok a) × (check_of b ≡ Ok b)
   -- through the value bytes and back, with whatever bytes after them
   pub value_back : ReadsBack a × ReadsBack b
+  -- through every form of the value and back, and from no other bytes; the value that is written is the shortest
+  pub forms_back : FormsReadBack a × FormsReadBack b
+  pub forms_exact : ReadFromForms a × ReadFromForms b
+  pub forms_least : ShortestForm a × ShortestForm b
   -- through the text and back, and from no text but its own
   pub text_back : TextReadsBack a × TextReadsBack b
   pub texts_exact : ReadFromTexts a × ReadFromTexts b
@@ -120,6 +143,8 @@ pub record TwoStamps (a b : Timestamp) : Type 0 where
   -- and then the same answers
   pub same_by_pair : BothOk (check_of a) (check_of b) (λ x y. SameAnswers x y a b)
   pub same_by_value : (d e : List ℕ) → BothOk (read_value (value_of a ++ d)) (read_value (value_of b ++ e)) (λ x y. SameAnswers x.0 y.0 a b)
+  pub same_by_form : EachForm a (λ x. EachForm b (λ y. (d e : List ℕ)
+      → BothOk (read_padded_value (x ++ d)) (read_padded_value (y ++ e)) (λ u v. SameAnswers u.0 v.0 a b)))
   pub same_by_text : BothOk (read_text_of (text_of a)) (read_text_of (text_of b)) (λ x y. SameAnswers x y a b)
   pub same_by_scan : EachTwo a b (λ x y. (d e : List ℕ)
       → BothOk (read_scan (scan_bytes x ++ d)) (read_scan (scan_bytes y ++ e)) (λ u v. SameAnswers u.0.stamp v.0.stamp a b))
@@ -127,12 +152,13 @@ pub record TwoStamps (a b : Timestamp) : Type 0 where
   pub texts_written : Writes (check_of a) (text_of a) × Writes (check_of b) (text_of b)
   pub values_written : Writes (check_of a) (value_of a) × Writes (check_of b) (value_of b)
   pub scans_written : EachScan a (λ x. Writes (scan_check x) (scan_bytes x)) × EachScan b (λ x. Writes (scan_check x) (scan_bytes x))
-  -- different timestamps have different texts, values and scans, no text that is read as the one is read as the other, and no value or
-  -- scan of the one is the beginning of the other's
+  -- different timestamps have different texts, values and scans, no text that is read as the one is read as the other, no form of a value
+  -- of the one is a form of the other's, and no value, form of it or scan of the one is the beginning of the other's
   pub texts_differ : Differ a b → text_of a ≡ text_of b → ⊥
   pub texts_apart : Differ a b → (s : List ℕ) → TextFor a s → TextFor b s → ⊥
   pub values_differ : Differ a b → value_of a ≡ value_of b → ⊥
   pub no_beginning : Differ a b → (r : List ℕ) → (value_of a ++ r ≡ value_of b → ⊥) × (value_of b ++ r ≡ value_of a → ⊥)
+  pub forms_apart : Differ a b → EachForm a (λ x. EachForm b (λ y. (x ≡ y → ⊥) × ((r : List ℕ) → (x ++ r ≡ y → ⊥) × (y ++ r ≡ x → ⊥))))
   pub scans_differ : Differ a b → EachTwo a b (λ x y. scan_bytes x ≡ scan_bytes y → ⊥)
   pub no_scan_beginning : Differ a b → EachTwo a b (λ x y. (r : List ℕ)
       → (scan_bytes x ++ r ≡ scan_bytes y → ⊥) × (scan_bytes y ++ r ≡ scan_bytes x → ⊥))

@@ -15,7 +15,7 @@ use Rattle.ion.specs.Pair.Fraction.{scale}
 use Rattle.ion.specs.Calls.Build.{precision_number, first_of, is_year, is_day}
 use Rattle.ion.specs.Calls.Build.{to_offset, route_checks, local_checks, given_time}
 use Rattle.ion.specs.Calls.Build.{local_time, pair_at, build_checks, build_pair, build_of}
-use Rattle.ion.specs.Calls.Check.{precision_of, from_local, offset_at, given_at, fraction_at, rebuilt}
+use Rattle.ion.specs.Calls.Check.{precision_of, from_local, offset_at, given_at, fraction_at, rebuilt, all_of}
 use Rattle.ion.specs.Calls.Accepted.{InBounds, Staged, Valid, date_in}
 use Rattle.ion.specs.declared.Fields.{Fields}
 use Rattle.ion.specs.declared.BuilderFields.{BuilderFields}
@@ -98,22 +98,6 @@ fraction_same p d a n l m = go (dec_le 4 p) (dec_lt 0 d)
     go (yes h) (no k) = let z : d ≡ 0 = omega arith in simp (le-leb 4 p h, z) (none z)
     go (no h) k = let q : p < 4 = omega arith in simp (lt-leb 4 p q) (none (n q))
 
--- all the fields of a word, as those of local time
-abbrev pub all_of : Fields → ℕ → BuilderFields
-all_of f a =
-    record {
-      precision = precision_of f.precision;
-      offset = from_local (offset_of f.offset);
-      year = f.year;
-      month = f.month;
-      day = f.day;
-      hour = f.hour;
-      minute = f.minute;
-      second = f.second;
-      attoseconds = a;
-      digits = f.digits;
-    }
-
 rebuilt_all : {f : Fields} {a : ℕ} → Valid f a → rebuilt f a ≡ all_of f a
 rebuilt_all {f} {a} v =
     let p = f.precision in
@@ -146,7 +130,7 @@ offset_is None = refl
 offset_is (Some m) = refl
 
 -- the offset of a packed word is that of local fields
-offset_local : (b : BuilderFields) (o : Option OffsetMinutes)
+pub offset_local : (b : BuilderFields) (o : Option OffsetMinutes)
     → (route_checks b (from_local o) ≡ local_checks b) × (local_time b (from_local o) ≡ given_time b)
 offset_local b None = (refl, refl)
 offset_local b (Some m) = (refl, refl)
@@ -195,7 +179,8 @@ all_pair {f} {a} v =
       offset = r i;
     })
 
-valid_builds : {f : Fields} {a : ℕ} → Valid f a → build_of (all_of f a) ≡ Ok (packed_pair (word_of f) a)
+-- all of valid local fields are built into their pair
+pub valid_builds : {f : Fields} {a : ℕ} → Valid f a → build_of (all_of f a) ≡ Ok (packed_pair (word_of f) a)
 unfolding build_of
 valid_builds v = ap₂ (λ (c : Result Unit Refusal) (s : Timestamp). result_and c (Ok s)) (all_checks v) (all_pair v)
 

@@ -1,9 +1,5 @@
-pub mod DecodeBack
-pub mod DecodeIs
-pub mod UtcBody
-pub mod LocalFields
+pub mod FormSteps
+pub mod ShortestForms
 pub mod Values
 pub mod Readings
-pub mod FieldSteps
-pub mod PartsTested
-pub mod PartsReadings
+pub mod Bodies

@@ -1,7 +1,7 @@
-// Values of timestamps in Ion binary, read.
+// Values of timestamps in Ion binary, read: the writer's bytes and no others.
 #![tactic(auto)]
 
-mod decoder;
 mod reader;
+mod shortest;
 
 pub use reader::read_value;

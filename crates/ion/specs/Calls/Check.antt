@@ -53,6 +53,22 @@ rebuilt f a =
       digits = given_at 4 f.precision f.digits 0;
     }
 
+-- all the fields, as those of local time
+abbrev pub all_of : Fields → ℕ → BuilderFields
+all_of f a =
+    record {
+      precision = precision_of f.precision;
+      offset = from_local (offset_of f.offset);
+      year = f.year;
+      month = f.month;
+      day = f.day;
+      hour = f.hour;
+      minute = f.minute;
+      second = f.second;
+      attoseconds = a;
+      digits = f.digits;
+    }
+
 -- what was built, where it is the pair that came in
 abbrev pub same_as : Timestamp → Result Timestamp Refusal → Result Timestamp Refusal
 same_as s (Ok t) = cond (same_pair t s) (Ok t) (Err refusal.Pair)

@@ -2,11 +2,11 @@
 use Rattle.std.specs.Prelude.{ℕ, cond, List, [], ◌∷◌, ◌++◌, ltb, length, Result, Ok, Err}
 use Prim.Native.Char.{code}
 use Rattle.ion.specs.Calls.Refusal.{number_of}
-use Rattle.ion.specs.Calls.Contents.{Contents, contents, in_turn}
+use Rattle.ion.specs.Calls.Contents.{Reader, Contents, contents, in_turn}
 use Rattle.ion.specs.Text.Ascii.{ascii}
 use Rattle.ion.specs.Numbers.Padded.{padded}
 use Rattle.ion.specs.Text.Format.{text_of}
-use Rattle.ion.specs.Value.ReadValue.{read_value}
+use Rattle.ion.specs.Value.ReadPaddedValue.{read_padded_value}
 use Rattle.ion.specs.declared.Timestamp.{Timestamp}
 use Rattle.ion.specs.declared.refusal.Refusal.{Refusal}
 use Rattle.ion.specs.declared.refusal.Refusal.TheVariants as refusal
@@ -29,7 +29,12 @@ last_line (Err r) = stop_line r
 unfoldable pub lines_of : Contents Timestamp → List ℕ
 lines_of c = in_turn text_line c.items ++ last_line c.ending
 
-unfoldable pub output_of : List ℕ → List ℕ
-output_of s =
-    let lines = lines_of (contents read_value s) in
+-- by a reader of values
+unfoldable pub output_by : Reader Timestamp → List ℕ → List ℕ
+output_by read s =
+    let lines = lines_of (contents read s) in
     cond (ltb 65536 (length s)) (stop_line refusal.LongInput) lines
+
+-- values in every form
+abbrev pub output_of : List ℕ → List ℕ
+output_of s = output_by read_padded_value s

@@ -1,11 +1,12 @@
 -- What the readers of single numbers answer, by the table's numbers: 0 with what was read, 13 where the input ends inside the
--- number, 15 where its bytes are no shortest form within the limit. Beside a refusal the other parts are 0 and no.
+-- number, 15 where its bytes are no form within the limit that is read. Beside a refusal the other parts are 0 and no.
 -- Assumes nothing.
 use Rattle.std.specs.Prelude.{ℕ, Bool, false, List, length, Option, None, Some, Result, Ok, Err}
 use Rattle.ion.specs.Calls.Refusal.{number_of}
 use Rattle.ion.specs.Numbers.VarUInt.{read_var_uint}
 use Rattle.ion.specs.Numbers.VarInt.{read_var_int}
 use Rattle.ion.specs.Numbers.Int.{read_int}
+use Rattle.ion.specs.Numbers.PaddedNumbers.{read_padded_var_uint}
 use Rattle.ion.specs.declared.number.NumberError.{NumberError}
 use Rattle.ion.specs.declared.number.NumberError.TheVariants.{Cut, Bad}
 use Rattle.ion.specs.declared.number.SignedMagnitude.{SignedMagnitude}
@@ -50,6 +51,9 @@ int_answer n None = refused_number refusal.Body
 
 abbrev pub var_uint_of : ℕ → List ℕ → NumberRead
 var_uint_of l s = var_uint_answer (read_var_uint l s)
+
+abbrev pub padded_var_uint_of : ℕ → List ℕ → NumberRead
+padded_var_uint_of l s = var_uint_answer (read_padded_var_uint l s)
 
 abbrev pub var_int_of : ℕ → List ℕ → NumberRead
 var_int_of l s = var_int_answer (read_var_int l s)

@@ -1,0 +1,13 @@
+pub mod NumberForms
+pub mod NumbersRead
+pub mod IntForms
+pub mod IntSteps
+pub mod Saturation
+pub mod FractionSteps
+pub mod Bounds
+pub mod BuiltParts
+pub mod FractionForms
+pub mod BodyForms
+pub mod Shortest
+pub mod PaddedValues
+pub mod PaddedLengths
