@@ -266,6 +266,8 @@ pub trait Library {
     /// A value without its header.
     fn body(&self, pair: Pair, buffer: &mut [u8]) -> Option<Written>;
     fn read(&self, input: &[u8]) -> Read;
+    /// The value with which the input begins, in any form that the Ion specification allows.
+    fn read_padded(&self, input: &[u8]) -> Read;
     /// The timestamp whose text the whole input is.
     fn read_text(&self, input: &[u8]) -> Built;
 

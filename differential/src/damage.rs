@@ -1,9 +1,10 @@
 //! Copies of good bytes with one damage.
 
+use crate::forms::{self, Form};
 use crate::random::Random;
 
 /// Bytes at the edges of what they mean in a value.
-const VALUE_EDGES: [u8; 15] =
+pub const VALUE_EDGES: [u8; 15] =
     [0x00, 0x01, 0x40, 0x41, 0x5F, 0x60, 0x6D, 0x6E, 0x6F, 0x7F, 0x80, 0x81, 0xC0, 0xC1, 0xFF];
 
 /// A text's marks, digits, what stands beside them in ASCII, and bytes that no text has.
@@ -18,6 +19,14 @@ pub fn value(random: &mut Random, good: &[u8]) -> Vec<u8> {
         lengthened(&mut bytes, good, by);
     }
     bytes
+}
+
+/// A damaged body after the length that it then has, or a damage anywhere in the value.
+pub fn form(random: &mut Random, good: &Form) -> Vec<u8> {
+    if random.one_in(4) {
+        return damaged(random, &good.bytes(), &VALUE_EDGES).0;
+    }
+    forms::value(good.length, &damaged(random, &good.body(), &VALUE_EDGES).0)
 }
 
 pub fn text(random: &mut Random, good: &[u8]) -> Vec<u8> {

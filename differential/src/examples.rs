@@ -16,6 +16,8 @@ pub enum Source {
     Scans,
     /// docs/SCOPE.md: the sentences on doubles and gaps.
     Reports,
+    /// docs/SCOPE.md: the sentences on values in any form.
+    Padded,
     /// The Ion 1.0 specification, section "Timestamp": texts, and which of them are one instant.
     IonText,
     /// The Ion 1.0 binary encoding, section "6: Timestamp": values of 2000-01-01T00:00:00, with and without a fraction.
@@ -26,12 +28,13 @@ pub enum Source {
 }
 
 impl Source {
-    pub const ALL: [Source; 8] = [
+    pub const ALL: [Source; 9] = [
         Source::Numbered,
         Source::Others,
         Source::Texts,
         Source::Scans,
         Source::Reports,
+        Source::Padded,
         Source::IonText,
         Source::IonBinary,
         Source::ByHand,
@@ -44,6 +47,7 @@ impl Source {
             Source::Texts => "docs/SCOPE.md, reading a text",
             Source::Scans => "docs/SCOPE.md, files of scans",
             Source::Reports => "docs/SCOPE.md, doubles and gaps",
+            Source::Padded => "docs/SCOPE.md, values in any form",
             Source::IonText => "Ion 1.0 specification, Timestamp",
             Source::IonBinary => "Ion 1.0 binary encoding, 6: Timestamp",
             Source::ByHand => "worked by hand from docs/SCOPE.md",
@@ -248,7 +252,8 @@ pub const ORDERS: [Order; 6] = [
 
 /// The scope's stop after P3 and P4, and values that the Ion 1.0 binary encoding has as equivalents of
 /// 2000-01-01T00:00:00+00:00 without a fraction, and the writer does not write: an exponent 0 alone, one with a
-/// coefficient 00, a negative zero exponent, an exponent 1. The scope's reader takes only the shortest form.
+/// coefficient 00, a negative zero exponent, an exponent 1. The reader of scans and `stamps` takes only the shortest form;
+/// padded_readings.rs has what that of any form makes of them.
 pub const UNREAD: [Unread; 5] = [
     Unread { source: Others, bytes: &[0x6F], number: 14 },
     Unread { source: IonBinary, bytes: &[0x69, 0x80, 0x0F, 0xD0, 0x81, 0x81, 0x80, 0x80, 0x80, 0x80], number: 15 },

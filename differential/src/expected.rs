@@ -3,6 +3,7 @@
 use crate::calls::*;
 use crate::model;
 use crate::oracle::{self, Answer};
+use crate::padded_reader;
 use crate::reader;
 use crate::scans::{self, Contents};
 use crate::text_reader;
@@ -59,6 +60,14 @@ pub fn read(input: &[u8]) -> Read {
         Answer::Accepted(body) => Some(body),
         _ => None,
     })
+}
+
+/// The value's form by the request, over the Rust's builder.
+pub fn read_padded(input: &[u8]) -> Expected<Read> {
+    match padded_reader::fields_of(input) {
+        Ok((build, taken)) => Ok(padded_reader::made(built(oracle::build(&build))?, taken)),
+        Err(refused) => Ok(refused),
+    }
 }
 
 /// The text's form by the request, over the Rust's builder.

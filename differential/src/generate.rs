@@ -1,8 +1,10 @@
 //! Cases drawn at random, with the edges more frequent than chance would make them.
 
 use crate::calls::{Build, Fraction, Offset, Pair, Scan, Stage};
+use crate::forms::{Form, Number, EXPONENT};
 use crate::model::{self, calendar, fields};
 use crate::oracle::{self, Answer};
+use crate::padded_reader::LONGEST_NUMBER;
 use crate::random::Random;
 
 /// Years at the edges of the calendar, of the packed field, of the value bytes and of the Rust's narrower types.
@@ -389,4 +391,101 @@ pub fn text_of_numbers(random: &mut Random) -> Vec<u8> {
         }
     }
     text.into_bytes()
+}
+
+/// A number of up to so many bits, of which each count is as frequent.
+fn of_bits(random: &mut Random, most: u64) -> u128 {
+    let bits = (random.bits() as u128) << 64 | random.bits() as u128;
+    bits % (1 << random.below(most + 1))
+}
+
+/// A form of an accepted pair's value. In one of four each part has the fewest bytes, in another as many as there is
+/// room for.
+pub fn form(random: &mut Random, pair: Pair) -> Form {
+    let mut form = Form::shortest(pair);
+    // A second without digits may have a fraction of zero.
+    if form.numbers.len() == EXPONENT && random.one_in(2) {
+        let magnitude = if random.one_in(3) { 0 } else { of_bits(random, 69) };
+        form.numbers.push(Number { negative: magnitude == 0 && random.one_in(2), magnitude, width: 0 });
+    }
+    form.coefficient.negative = form.numbers.len() > EXPONENT && form.coefficient.magnitude == 0 && random.one_in(2);
+    let mut form = form.widened();
+    let padding = random.below(4);
+    let longer = |random: &mut Random, width: usize, most: usize| match padding {
+        0 => width,
+        1 if random.one_in(4) => random.between(width as i64, most as i64) as usize,
+        1 => width,
+        2 => random.between(width as i64, most as i64) as usize,
+        _ => most,
+    };
+    let count = form.numbers.len();
+    let first = random.below(count as u64) as usize;
+    for place in (first..count).chain(0..first) {
+        let width = form.numbers[place].width;
+        form = form.with_width(place, longer(random, width, LONGEST_NUMBER.min(width + form.room())));
+    }
+    if form.numbers.len() > EXPONENT {
+        let width = form.coefficient.width;
+        form = form.with_coefficient(longer(random, width, width + form.room()));
+    }
+    let long = random.one_in(2);
+    form.with_length(long.then(|| longer(random, 1, LONGEST_NUMBER)))
+}
+
+/// The same with one part of a byte more than it may have, or in two.
+pub fn long_form(random: &mut Random, form: &Form) -> Form {
+    let by = 1 + random.below(2) as usize;
+    match random.below(form.numbers.len() as u64 + 2) as usize {
+        place if place < form.numbers.len() => form.with_width(place, LONGEST_NUMBER + by),
+        _ if form.numbers.len() > EXPONENT && random.one_in(2) => {
+            form.with_coefficient(form.coefficient.width + form.room() + by)
+        }
+        _ => form.with_length(Some(LONGEST_NUMBER + by)),
+    }
+}
+
+/// The first past each number's end: minutes, fields of local time, and digits.
+const PAST_ENDS: [u128; 8] = [1440, 10_000, 13, 32, 24, 60, 60, 19];
+
+/// The same with one of its numbers changed, or with some left out; most are refused.
+pub fn changed_form(random: &mut Random, form: &Form) -> Form {
+    let mut form = form.clone();
+    let count = form.numbers.len();
+    let place = random.below(count as u64) as usize;
+    let number = &mut form.numbers[place];
+    match random.below(9) {
+        0 => number.magnitude += 1 << random.pick(&[32, 64]),
+        1 => number.magnitude = random.pick(&SMALL) as u128,
+        2 => number.magnitude = of_bits(random, 69),
+        3 => number.magnitude = PAST_ENDS[place],
+        4 => {
+            let minutes =
+                if random.one_in(2) { random.pick(&OFFSETS).unsigned_abs() as u64 } else { random.below(1500) };
+            form.numbers[0] = Number { negative: random.one_in(2), magnitude: minutes as u128, ..form.numbers[0] };
+        }
+        5 => form.numbers[1].magnitude = random.pick(&YEARS) as u128,
+        6 => form.numbers.truncate(place + 1),
+        _ if count >= EXPONENT => change_fraction(random, &mut form),
+        _ => number.magnitude ^= 1 << random.below(8),
+    }
+    if form.numbers.len() <= EXPONENT {
+        form.coefficient = Number::NONE;
+    }
+    form.widened()
+}
+
+/// Gives a second an exponent and a coefficient at the edges of those that it may have.
+fn change_fraction(random: &mut Random, form: &mut Form) {
+    let digits = if random.one_in(4) { of_bits(random, 69) } else { random.below(26) as u128 };
+    form.numbers.truncate(EXPONENT);
+    form.numbers.push(Number { negative: !random.one_in(4), magnitude: digits, width: 1 });
+    let coefficient = &mut form.coefficient;
+    coefficient.negative = random.one_in(4);
+    match random.below(5) {
+        0 => coefficient.magnitude = 0,
+        1 => coefficient.magnitude = 10u128.pow(digits.min(30) as u32) - random.below(2) as u128,
+        2 => coefficient.magnitude = of_bits(random, 127),
+        3 => coefficient.magnitude += 1 << 64,
+        _ => {}
+    }
 }

@@ -21,13 +21,17 @@ pub mod damage;
 pub mod differences;
 pub mod examples;
 pub mod expected;
+pub mod forms;
 pub mod generate;
 pub mod model;
 pub mod oracle;
 #[cfg(feature = "ours")]
 pub mod ours;
+pub mod padded_reader;
+pub mod padded_readings;
 mod plain_reader;
 mod plain_report;
+mod plain_value_reader;
 pub mod random;
 pub mod reader;
 pub mod readings;

@@ -55,6 +55,13 @@ extern "C" {
     fn timestamp_body(word: u64, attoseconds: u64, buffer: *mut u8, length: usize, written: &mut usize) -> u32;
     fn timestamp_read(input: *const u8, length: usize, word: &mut u64, attoseconds: &mut u64, taken: &mut usize)
         -> u32;
+    fn timestamp_read_padded(
+        input: *const u8,
+        length: usize,
+        word: &mut u64,
+        attoseconds: &mut u64,
+        taken: &mut usize,
+    ) -> u32;
     fn timestamp_read_text(input: *const u8, length: usize, word: &mut u64, attoseconds: &mut u64) -> u32;
     fn scan_read(
         input: *const u8,
@@ -127,6 +134,13 @@ fn built(call: impl FnOnce(&mut u64, &mut u64) -> u32) -> Built {
     let (mut word, mut attoseconds) = (u64::MAX, u64::MAX);
     let number = call(&mut word, &mut attoseconds);
     Built { number, pair: Pair { word, attoseconds } }
+}
+
+/// The same with how many bytes were taken.
+fn read(call: impl FnOnce(&mut u64, &mut u64, &mut usize) -> u32) -> Read {
+    let mut taken = usize::MAX;
+    let Built { number, pair } = built(|word, attoseconds| call(word, attoseconds, &mut taken));
+    Read { number, pair, taken }
 }
 
 fn ordered(call: impl FnOnce(&mut i32) -> u32) -> Ordered {
@@ -285,11 +299,15 @@ impl Library for Ours {
     }
 
     fn read(&self, input: &[u8]) -> Read {
-        let mut taken = usize::MAX;
-        let built = built(|word, attoseconds| unsafe {
-            timestamp_read(input.as_ptr(), input.len(), word, attoseconds, &mut taken)
-        });
-        Read { number: built.number, pair: built.pair, taken }
+        read(|word, attoseconds, taken| unsafe {
+            timestamp_read(input.as_ptr(), input.len(), word, attoseconds, taken)
+        })
+    }
+
+    fn read_padded(&self, input: &[u8]) -> Read {
+        read(|word, attoseconds, taken| unsafe {
+            timestamp_read_padded(input.as_ptr(), input.len(), word, attoseconds, taken)
+        })
     }
 
     fn read_text(&self, input: &[u8]) -> Built {

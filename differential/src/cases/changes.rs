@@ -31,6 +31,18 @@ pub fn one_changed(bytes: &[u8], case: &mut impl FnMut(&[u8])) {
     every_byte(&[bytes, &[0]].concat(), bytes.len(), case);
 }
 
+/// Every bit turned, one at a time.
+pub fn one_bit_changed(bytes: &[u8], case: &mut impl FnMut(&[u8])) {
+    let mut bytes = bytes.to_vec();
+    for place in 0..bytes.len() {
+        for bit in 0..8 {
+            bytes[place] ^= 1 << bit;
+            case(&bytes);
+            bytes[place] ^= 1 << bit;
+        }
+    }
+}
+
 /// Every two bytes in every two neighbouring places.
 pub fn two_changed(bytes: &[u8], case: &mut impl FnMut(&[u8])) {
     let mut bytes = bytes.to_vec();

@@ -172,7 +172,7 @@ fn any_months(cases: &mut impl Cases, random: &mut Random) {
 }
 
 /// A pair of the year 1 or 9999, or of its neighbour; most of their offsets leave the years' range.
-fn at_an_end(random: &mut Random) -> Pair {
+pub(super) fn at_an_end(random: &mut Random) -> Pair {
     let build = generate::build(random);
     let (year, month) = random.pick(&[(1, 1), (9999, 12), (2, 1), (9998, 12)]);
     let first = Build { year, month, month0: false, day: if month == 1 { 1 } else { 31 }, day0: false, ..build };

@@ -4,6 +4,7 @@
 mod changes;
 mod drawn;
 mod exhaustive;
+mod padded;
 mod reports;
 mod scans;
 mod texts;
@@ -26,6 +27,10 @@ pub trait Cases {
     fn pair(&mut self, pair: Pair);
     fn two(&mut self, first: Pair, second: Pair);
     fn read(&mut self, input: &[u8]);
+    /// Reading a value in any form.
+    fn read_padded(&mut self, input: &[u8]);
+    /// The same of bytes of which it is known what they are: a form of a pair's value and nothing else, or to be refused.
+    fn read_form(&mut self, bytes: &[u8], owed: Result<Pair, u32>);
     fn read_text(&mut self, input: &[u8]);
     fn read_scan(&mut self, input: &[u8]);
     fn write_scan(&mut self, scan: Scan);
@@ -63,5 +68,9 @@ pub fn sections<'a, C: Cases + 'a>(options: Options) -> Vec<Section<'a, C>> {
         sections.extend(reports::sections());
     }
     sections.extend(reports::drawn(options));
+    if !options.drawn_only {
+        sections.extend(padded::sections());
+    }
+    sections.extend(padded::drawn(options));
     sections
 }

@@ -3,6 +3,7 @@
 use super::changes::{all_ends, all_short, one_changed, two_changed};
 use super::{Cases, Section};
 use crate::calls::{Build, Fraction, Offset, Pair, Scan, Stage};
+use crate::forms::{group_count, groups};
 use crate::generate::SCAN_NUMBERS;
 use crate::oracle::{self, Answer};
 
@@ -24,20 +25,13 @@ fn short_scans(cases: &mut impl Cases) {
     all_ends(&mut Vec::new(), &edges, 7, &mut |input| cases.read_scan(input));
 }
 
-/// A number in groups of seven bits, as many as told, the last of them marked.
-fn groups(number: u64, count: u32) -> Vec<u8> {
-    let mark = |place: u32| if place == 0 { 0x80 } else { 0 };
-    (0..count).rev().map(|place| (number >> (7 * place)) as u8 & 0x7F | mark(place)).collect()
-}
-
 /// Both ends of each length, what is past the last, padded forms of each number, and runs without a mark.
 fn number_forms() -> Vec<Vec<u8>> {
-    let ends = SCAN_NUMBERS.map(|number| number as u64);
+    let ends = SCAN_NUMBERS.map(u128::from);
     let past = [1 << 32, (1 << 32) + 1, 1 << 34, (1 << 35) - 1];
     let mut forms = Vec::new();
     for number in ends.into_iter().chain(past) {
-        let shortest = (1..).find(|count| number >> (7 * count) == 0).expect("ten groups hold any number");
-        forms.extend((shortest..=7).map(|count| groups(number, count)));
+        forms.extend((group_count(number)..=7).map(|count| groups(number, count)));
     }
     for byte in [0x00, 0x01, 0x0F, 0x7F] {
         forms.extend((1..=7).map(|count| vec![byte; count]));

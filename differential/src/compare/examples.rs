@@ -5,6 +5,7 @@ use crate::calls::{Build, Library, Pair, Read};
 use crate::cases::Cases;
 use crate::examples::{Example, Order, EXAMPLES, ORDERS, UNREAD};
 use crate::oracle::{self, Answer};
+use crate::padded_readings::{PaddedReading, PADDED};
 use crate::readings::{Reading, READINGS};
 use crate::report_readings::{ReportReading, REPORTS};
 use crate::reports::WORD_COUNT;
@@ -26,6 +27,7 @@ pub fn all<L: Library>(run: &mut Run<'_, L>) {
     for reading in &READINGS {
         reads(run, reading);
     }
+    PADDED.iter().for_each(|reading| reads_padded(run, reading));
     scans(run);
     REPORTS.iter().for_each(|reading| reports(run, reading));
     first_pair(run);
@@ -56,6 +58,13 @@ fn reads<L: Library>(run: &mut Run<'_, L>, reading: &Reading) {
     let expected = reading.answer(|build| run.library.build(build).pair);
     let answer = run.library.read_text(text);
     run.judge("read text", || format!("{}: {}", reading.source.name(), reading.text), Ok(expected), answer);
+}
+
+fn reads_padded<L: Library>(run: &mut Run<'_, L>, reading: &PaddedReading) {
+    run.read_padded(reading.bytes);
+    let expected = reading.answer(|build| run.library.build(build).pair);
+    let answer = run.library.read_padded(reading.bytes);
+    run.judge("read_padded", || format!("{}: {:02x?}", reading.source.name(), reading.bytes), Ok(expected), answer);
 }
 
 fn scans<L: Library>(run: &mut Run<'_, L>) {

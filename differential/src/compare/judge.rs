@@ -137,9 +137,11 @@ impl<L: Library> Cases for Run<'_, L> {
         self.writer("body", case, oracle::body(pair), |library, buffer| library.body(pair, buffer));
         if let Answer::Accepted(value) = value {
             let taken = value.len();
+            let expected = Read { number: 0, pair, taken };
             let answer = self.library.read(&value);
-            let expected = Ok(Read { number: 0, pair, taken });
-            self.judge("read of the value", case, expected, answer);
+            self.judge("read of the value", case, Ok(expected), answer);
+            let answer = self.library.read_padded(&value);
+            self.judge("read_padded of the value", case, Ok(expected), answer);
         }
     }
 
@@ -168,6 +170,15 @@ impl<L: Library> Cases for Run<'_, L> {
         let answer = self.library.read(input);
         self.count(Counted::Read, answer.number);
         self.judge("read", || format!("{input:02x?}"), Ok(expected::read(input)), answer);
+        self.judge_alike(input, answer, self.library.read_padded(input));
+    }
+
+    fn read_padded(&mut self, input: &[u8]) {
+        self.judge_padded(input);
+    }
+
+    fn read_form(&mut self, bytes: &[u8], owed: Result<Pair, u32>) {
+        self.judge_form(bytes, owed);
     }
 
     fn read_text(&mut self, input: &[u8]) {

@@ -2,6 +2,7 @@
 
 mod examples;
 mod judge;
+mod padded;
 mod reports;
 mod scans;
 
@@ -24,10 +25,21 @@ enum Counted {
     WriteScan,
     File,
     Report,
+    ReadPadded,
 }
 
-const COUNTED: [&str; 9] =
-    ["build", "check", "writers", "read", "read text", "read scan", "write scan", "check file", "report file"];
+const COUNTED: [&str; 10] = [
+    "build",
+    "check",
+    "writers",
+    "read",
+    "read text",
+    "read scan",
+    "write scan",
+    "check file",
+    "report file",
+    "read padded",
+];
 
 /// Numbers go from 0 to this.
 const LAST_NUMBER: usize = 22;

@@ -7,6 +7,7 @@ pub mod fields;
 pub mod writing;
 
 use crate::calls::*;
+use crate::padded_reader;
 use crate::reader;
 use crate::refusals::SHORT_BUFFER;
 use crate::reports;
@@ -178,6 +179,11 @@ impl Library for Model {
         reader::read(input, |pair| on_one(pair, |fields| writing::body(&utc_and(fields))).ok())
     }
 
+    fn read_padded(&self, input: &[u8]) -> Read {
+        let made = |(build, taken)| padded_reader::made(self.build(&build), taken);
+        padded_reader::fields_of(input).map_or_else(|refused| refused, made)
+    }
+
     fn read_text(&self, input: &[u8]) -> Built {
         text_reader::fields_of(input).map_or_else(|refused| refused, |build| self.build(&build))
     }
@@ -229,6 +235,6 @@ impl Library for Model {
 }
 
 /// The fields in UTC beside the offset, as a value's body has them.
-fn utc_and(fields: &fields::Fields) -> fields::Fields {
+pub fn utc_and(fields: &fields::Fields) -> fields::Fields {
     fields::Fields { offset: fields.offset, ..of_word(utc_form(fields)) }
 }

@@ -26,7 +26,8 @@
 //! | 0E | scan written | scan | number n1, bytes |
 //! | 0F | file checked | bytes, last | number n1, how many scans n1 |
 //! | 10 | file reported | W n4, G n4, lent words n2, bytes, last | number n1, five counts n1 each, six words n8 each |
-//! | FF | end | | how many records of the kinds 01 to 10 there were n4 |
+//! | 11 | padded value read | bytes, last | number n1, pair, taken n1 |
+//! | FF | end | | how many records of the kinds 01 to 11 there were n4 |
 //!
 //! A field set is its stage n1, how month, day and hour are given n1, the year, month, day, hour, minute and second n4
 //! each, the fraction's kind n1 and two numbers n8 n8, the offset's kind n1 and its minutes n4. codes.rs has the codes.
@@ -57,6 +58,7 @@ pub enum Record {
     WriteScan(Scan, u32, Vec<u8>),
     File(Vec<u8>, FileRead),
     Report(Reported),
+    ReadPadded(Vec<u8>, Read),
     End(u32),
 }
 
@@ -97,6 +99,7 @@ impl Record {
                 | Record::WriteScan(..)
                 | Record::File(..)
                 | Record::Report(_)
+                | Record::ReadPadded(..)
         )
     }
 
@@ -119,6 +122,7 @@ impl Record {
             Record::WriteScan(..) => 0x0E,
             Record::File(..) => 0x0F,
             Record::Report(_) => 0x10,
+            Record::ReadPadded(..) => 0x11,
             Record::End(_) => 0xFF,
         }
     }
@@ -137,7 +141,7 @@ impl Record {
             Record::Text(pair, number, bytes) | Record::Value(pair, number, bytes) => {
                 rest.pair(*pair).byte(*number as u8).bytes(bytes);
             }
-            Record::Read(input, answer) => {
+            Record::Read(input, answer) | Record::ReadPadded(input, answer) => {
                 rest.byte(answer.number as u8).pair(answer.pair);
                 rest.byte(answer.taken as u8).bytes(input);
             }
@@ -187,8 +191,7 @@ impl Record {
             0x05 => Record::Text(fields.pair()?, fields.byte()? as u32, fields.bytes()?),
             0x06 => Record::Value(fields.pair()?, fields.byte()? as u32, fields.bytes()?),
             0x07 => {
-                let built = fields.built()?;
-                let answer = Read { number: built.number, pair: built.pair, taken: fields.byte()? as usize };
+                let answer = fields.read()?;
                 Record::Read(fields.bytes()?, answer)
             }
             0x08 => Record::Distance(fields.pair()?, fields.pair()?, fields.distance()?),
@@ -213,6 +216,10 @@ impl Record {
                 let (w, g, lent) = (fields.half()?, fields.half()?, fields.quarter()?);
                 let (answer, words) = (fields.report()?, fields.words()?);
                 Record::Report(Reported { file: fields.bytes()?, w, g, lent, answer, words })
+            }
+            0x11 => {
+                let answer = fields.read()?;
+                Record::ReadPadded(fields.bytes()?, answer)
             }
             0xFF => Record::End(fields.half()?),
             _ => return None,
@@ -322,6 +329,11 @@ impl Fields<'_> {
 
     fn built(&mut self) -> Option<Built> {
         Some(Built { number: self.byte()? as u32, pair: self.pair()? })
+    }
+
+    fn read(&mut self) -> Option<Read> {
+        let Built { number, pair } = self.built()?;
+        Some(Read { number, pair, taken: self.byte()? as usize })
     }
 
     fn report(&mut self) -> Option<Report> {

@@ -60,6 +60,7 @@ fn agrees<L: Library>(library: &L, record: &Record) -> bool {
         }
         Record::File(file, answer) => library.check_file(file) == *answer,
         Record::Report(reported) => reports(library, reported),
+        Record::ReadPadded(input, answer) => library.read_padded(input) == *answer,
         Record::Source(_) | Record::End(_) => false,
     }
 }

@@ -7,6 +7,7 @@ use crate::differences;
 use crate::examples::{Source, EXAMPLES, ORDERS, UNREAD};
 use crate::expected::{self, Expected};
 use crate::oracle::{self, Answer};
+use crate::padded_readings::PADDED;
 use crate::random::Random;
 use crate::readings::READINGS;
 use crate::report_readings::{ReportReading, REPORTS};
@@ -48,6 +49,7 @@ enum Kind {
     WriteScan,
     File,
     Report,
+    ReadPadded,
 }
 
 /// How many cases there were, and the records of those that are kept, with the cases' places.
@@ -79,10 +81,11 @@ impl Sample {
         let kept = self.kept.entry((kind, number)).or_default();
         self.place += 1;
         kept.seen += 1;
-        // Of scans, half as many, and of reports a quarter: what they are made of is recorded alone too.
+        // Of scans, half as many, and of reports a quarter: what they are made of is recorded alone too. Of values in any
+        // form half as many: there are more sections of them.
         let of_each = match kind {
             Kind::Report => self.of_each.div_ceil(4),
-            Kind::ReadScan | Kind::WriteScan | Kind::File => self.of_each.div_ceil(2),
+            Kind::ReadScan | Kind::WriteScan | Kind::File | Kind::ReadPadded => self.of_each.div_ceil(2),
             _ => self.of_each,
         };
         let enough = if number == 0 { ACCEPTED * of_each } else { of_each };
@@ -125,6 +128,15 @@ impl Cases for Sample {
     fn read(&mut self, input: &[u8]) {
         let read = expected::read(input);
         self.offer(Kind::Read, read.number, || vec![Record::Read(input.to_vec(), read)]);
+    }
+
+    fn read_padded(&mut self, input: &[u8]) {
+        let read = answered(expected::read_padded(input));
+        self.offer(Kind::ReadPadded, read.number, || vec![Record::ReadPadded(input.to_vec(), read)]);
+    }
+
+    fn read_form(&mut self, bytes: &[u8], _owed: Result<Pair, u32>) {
+        self.read_padded(bytes);
     }
 
     fn read_text(&mut self, input: &[u8]) {
@@ -256,6 +268,9 @@ pub fn examples(source: Source) -> Vec<Record> {
     }
     for reading in READINGS.iter().filter(|reading| reading.source == source) {
         records.push(Record::ReadText(reading.text.as_bytes().to_vec(), reading.answer(pair_of)));
+    }
+    for reading in PADDED.iter().filter(|reading| reading.source == source) {
+        records.push(Record::ReadPadded(reading.bytes.to_vec(), reading.answer(pair_of)));
     }
     match source {
         Source::Scans => records.extend(scans()),

@@ -3,6 +3,7 @@
 
 mod stand_ins;
 mod wrong;
+mod wrong_padded;
 mod wrong_reports;
 
 use crate::calls::{Build, Fraction, Offset};
@@ -10,10 +11,12 @@ use crate::cases::Options;
 use crate::compare;
 use crate::damage;
 use crate::expected;
+use crate::forms::Form;
 use crate::generate;
 use crate::model::Model;
 use crate::oracle::{self, Answer};
 use crate::plain_reader;
+use crate::plain_value_reader;
 use crate::random::Random;
 use crate::record::{self, format::Record, replay};
 use crate::timing;
@@ -76,6 +79,32 @@ fn the_reader_that_is_timed_reads_as_the_one_that_is_compared() {
 }
 
 #[test]
+fn the_reader_of_values_that_is_timed_reads_as_the_one_that_is_compared() {
+    let mut random = Random::new(SHORT.seed);
+    for _ in 0..50_000 {
+        let pair = generate::accepted(&mut random);
+        let form = generate::form(&mut random, pair);
+        let changed = generate::changed_form(&mut random, &form);
+        let long = generate::long_form(&mut random, &form);
+        let damaged = damage::form(&mut random, &form);
+        for value in [form.bytes(), changed.bytes(), long.bytes(), damaged] {
+            let owed = expected::read_padded(&value).expect("the Rust answers");
+            let read = plain_value_reader::read(&value).map(|(stamp, taken)| (oracle::pair_of(&stamp), taken));
+            assert_eq!(read, (owed.number == 0).then_some((owed.pair, owed.taken)), "{value:02x?}");
+        }
+    }
+}
+
+#[test]
+fn a_form_in_the_fewest_bytes_is_what_the_rust_writes() {
+    let mut random = Random::new(SHORT.seed);
+    for _ in 0..50_000 {
+        let pair = generate::accepted(&mut random);
+        assert_eq!(Answer::Accepted(Form::shortest(pair).bytes()), oracle::value(pair));
+    }
+}
+
+#[test]
 fn the_writer_of_scans_that_is_timed_writes_as_the_rust_does() {
     let mut random = Random::new(SHORT.seed);
     for _ in 0..50_000 {
@@ -99,7 +128,7 @@ fn recorded_answers_come_back_and_are_replayed() {
     assert!(rest.is_empty());
 
     let tallies = replay::replay(&Model, &bytes).expect("a whole file");
-    assert_eq!(tallies.len(), 10);
+    assert_eq!(tallies.len(), 11);
     assert!(tallies.iter().all(|tally| tally.records > 0 && tally.agreed == tally.records));
 
     assert!(replay::replay(&Model, &bytes[..bytes.len() - 1]).is_err());

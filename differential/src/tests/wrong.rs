@@ -1,6 +1,6 @@
 //! Libraries with one wrong answer each, the scope's six among them: a run must notice every one.
 
-use super::{wrong_reports, SHORT};
+use super::{wrong_padded, wrong_reports, SHORT};
 use crate::calls::*;
 use crate::compare;
 use crate::model::Model;
@@ -79,6 +79,8 @@ enum Fault {
     LeavesTheDamage,
     /// A report, without a fault or with one.
     Report(Option<wrong_reports::Fault>),
+    /// A reader of values in any form, without a fault or with one.
+    Padded(Option<wrong_padded::Fault>),
 }
 
 const ALL: [Fault; 41] = [
@@ -251,6 +253,13 @@ impl Library for Wrong {
         }
     }
 
+    fn read_padded(&self, input: &[u8]) -> Read {
+        match self.0 {
+            Fault::Padded(fault) => wrong_padded::read(fault, input),
+            _ => Model.read_padded(input),
+        }
+    }
+
     fn read_text(&self, input: &[u8]) -> Built {
         let read = Model.read_text(input);
         match (self.0, input) {
@@ -376,5 +385,13 @@ fn each_wrong_report_is_noticed() {
     assert!(compare::run(&Wrong(Fault::Report(None)), SHORT));
     for fault in wrong_reports::ALL {
         assert!(!compare::run(&Wrong(Fault::Report(Some(fault))), SHORT), "{fault:?} was not noticed");
+    }
+}
+
+#[test]
+fn each_wrong_reader_of_any_form_is_noticed() {
+    assert!(compare::run(&Wrong(Fault::Padded(None)), SHORT));
+    for fault in wrong_padded::ALL {
+        assert!(!compare::run(&Wrong(Fault::Padded(Some(fault))), SHORT), "{fault:?} was not noticed");
     }
 }

@@ -12,6 +12,7 @@
 
 mod reports;
 pub(crate) mod scans;
+mod values;
 
 use crate::binary::timestamp::TimestampBinaryEncoder;
 use crate::calls::{Build, Library, Pair};
@@ -229,6 +230,7 @@ pub fn run<L: Library>(library: &L, seed: u64) {
     for row in rows {
         println!("{:<14} {}", row.name, row.told(PASSES * INPUTS));
     }
+    values::run(library, &inputs.pairs, seed);
     scans::run(library, seed);
     reports::run(library, seed);
 }
