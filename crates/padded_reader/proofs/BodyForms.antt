@@ -44,7 +44,7 @@ use Rattle.padded_reader.specs.Fractions.{coefficient_units, padded_fraction}
 use Rattle.padded_reader.proofs.NumberForms.{uint_length, uint_read, int_read}
 use Rattle.padded_reader.proofs.NumbersRead.{uint_is, int_is}
 use Rattle.padded_reader.proofs.FractionForms.{fraction_back, FractionIs, fraction_is}
-use Rattle.padded_reader.proofs.BuiltParts.{with_units, stamp_is}
+use Rattle.padded_reader.proofs.BuiltParts.{local_same, with_units, stamp_is}
 
 exact : Exact padded VarUIntForm VarIntForm
 exact =
@@ -219,10 +219,6 @@ body_read s p b w = form_stamp (fields_of (word_in s)) s.attoseconds p.fields b 
 pub record BodyOf (s : Timestamp) (b : List ℕ) : Type 0 where
   pub accepted : Accepted s
   pub form : BodyForm (fields_of (word_in s)) s.attoseconds b
-
-local_same : (o : Option OffsetMinutes) (u : Fields) → ((local_by o u).digits ≡ u.digits) × ((local_by o u).precision ≡ u.precision)
-local_same None u = (refl, refl)
-local_same (Some m) u = (refl, refl)
 
 module _ (b : List ℕ) (below : Below 256 b) (y : Parts (ℕ × ℕ)) (w : Decodes exact padded_fraction y b) where
   fraction : FractionIs w.fraction_bytes y.fraction.0 y.fraction.1

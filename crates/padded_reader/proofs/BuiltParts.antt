@@ -150,9 +150,9 @@ module _ (q : Decimal) where
 abbrev answer : Option OffsetMinutes → Fields → ℕ → Result Timestamp Refusal
 answer o u a = cond (is_utc_time o u) (or_body (build_of (all_of (local_by o u) a))) (Err refusal.Body)
 
-local_digits : (o : Option OffsetMinutes) (u : Fields) → (local_by o u).digits ≡ u.digits
-local_digits None u = refl
-local_digits (Some m) u = refl
+pub local_same : (o : Option OffsetMinutes) (u : Fields) → ((local_by o u).digits ≡ u.digits) × ((local_by o u).precision ≡ u.precision)
+local_same None u = (refl, refl)
+local_same (Some m) u = (refl, refl)
 
 module _ (o : Option OffsetMinutes) (u : Fields) (a : ℕ) where
   abbrev given : BuilderFields
@@ -170,7 +170,7 @@ module _ (o : Option OffsetMinutes) (u : Fields) (a : ℕ) where
       go true (Err r) e = refl
 
   pub many_digits : 18 < u.digits → answer o u a ≡ Err refusal.Body
-  many_digits h = refused (λ e. let b = (build_local given e).0 in omega (arith, b.digits, local_digits o u))
+  many_digits h = refused (λ e. let b = (build_local given e).0 in omega (arith, b.digits, (local_same o u).0))
 
   pub whole_second : 10 ^ 18 ≤ a → answer o u a ≡ Err refusal.Body
   whole_second h = refused (λ e. let b = (build_local given e).0 in omega (arith, b.attoseconds))
@@ -215,7 +215,7 @@ module _ (x : Body) (p : Encodable x) where
       let f = local_by x.offset x.utc in
       let b = build_local (given x.offset x.utc (capped (attoseconds_from x))) e in
       let y = ap (λ (z : DateTime). z.year) (offset_local (given x.offset x.utc (capped (attoseconds_from x))) (offset_of f.offset)).1 in
-      let digits : x.utc.digits ≤ 18 = omega (arith, b.0.digits, local_digits x.offset x.utc) in
+      let digits : x.utc.digits ≤ 18 = omega (arith, b.0.digits, (local_same x.offset x.utc).0) in
       let from : 1 ≤ f.year = omega (arith, b.1.from_year, y) in
       let to : f.year ≤ 9999 = omega (arith, b.1.to_year, y) in
       record {

@@ -5,21 +5,19 @@ use mathlib.Core.List.{List, [], ◌∷◌, ◌++◌}
 use Prim.Native.Nat.{ℕ, zero, suc, ◌/◌, ◌≤◌, ◌<◌}
 use native.Mathlib.Omega.{arith}
 use lib.Dec.{lit<}
-use lib.IntN.{nat_abs}
 use lib.ListN.{length, length-append}
-use Rattle.std.specs.Prelude.{Option, None, Some}
+use Rattle.std.specs.Prelude.{Option}
 use Rattle.places.specs.Places.{plain, places}
 use Rattle.places.proofs.Laws.{held, zero_byte, length_places}
 use Rattle.places.proofs.Below.{Below, below_take}
 use Rattle.ion.specs.Numbers.VarUInt.{groups, group_count, varuint}
-use Rattle.ion.specs.Numbers.VarInt.{is_negative, signed_count, sign_first, signed, varint}
+use Rattle.ion.specs.Numbers.VarInt.{signed_count, sign_first, signed}
 use Rattle.ion.specs.Numbers.Int.{int_count, int}
 use Rattle.ion.specs.Pair.Offset.{WithinDay, offset_of}
 use Rattle.ion.specs.Pair.Word.{fields_of}
 use Rattle.ion.specs.Pair.Pair.{word_in}
 use Rattle.ion.specs.Pair.Fraction.{scale}
 use Rattle.ion.specs.Calls.Accepted.{Accepted}
-use Rattle.ion.specs.Calls.Contents.{in_turn}
 use Rattle.ion.specs.Calls.Utc.{utc_fields}
 use Rattle.ion.specs.Value.Encode.{offset_bytes, varuints, field_list, field_count, fraction_bytes, body_from, body_of}
 use Rattle.ion.specs.Value.Forms.{VarUIntForm, VarIntForm, sign_int, IntForm, OffsetForm, FieldsForm, FractionForm, BodyForm}
@@ -32,6 +30,7 @@ use Rattle.binary.proofs.Ints.{length_int, bytes_int, int_held, int_least, int_z
 use Rattle.timestamp.proofs.Valid.{valid_offset}
 use Rattle.timestamp.proofs.UtcForm.{utc_is}
 use Rattle.timestamp_binary.proofs.BodyRuns.{no_fraction, fraction_bytes_lem}
+use Rattle.value_decoder.proofs.WrittenParts.{fields_written, offset_written, fields_beside, offset_beside}
 use Rattle.value_decoder.proofs.Filled.{fields_at}
 use Rattle.value_decoder.proofs.UtcBody.{encodable}
 use Rattle.padded_reader.proofs.NumberForms.{uint_length, uint_shortest, int_length, int_shortest}
@@ -65,14 +64,10 @@ unfolding int
 coefficient_form c = record { width = int_count c; some = λ e. absurd (false≢true e); holds = int_held c; bytes = refl }
 
 offset_form : (o : Option OffsetMinutes) → WithinDay o → OffsetForm VarIntForm o (offset_bytes o)
-unfolding offset_bytes varint
-offset_form None h = int_form true 0 (omega arith)
-offset_form (Some m) h = int_form (is_negative m.0) (nat_abs m.0) (omega arith)
+offset_form = offset_written VarIntForm (λ g m h. int_form g m (omega arith))
 
 fields_form : (l : List ℕ) → Below 16384 l → FieldsForm VarUIntForm l (varuints l)
-unfolding in_turn
-fields_form [] h = FieldsForm.none
-fields_form (v ∷ l) h = FieldsForm.more (uint_form v (h 0)) (fields_form l (λ i. h (suc i)))
+fields_form = fields_written VarUIntForm uint_form
 
 fraction_form : (d c : ℕ) → d ≤ 18 → (d ≡ 0 → c ≡ 0) → FractionForm d c (fraction_bytes d c)
 unfolding fraction_bytes
@@ -143,14 +138,11 @@ coefficient_least h c s z f =
 -- ---- the parts of a body
 
 offset_least : (o : Option OffsetMinutes) (s : List ℕ) → OffsetForm VarIntForm o s → Least s (offset_bytes o)
-unfolding offset_bytes varint
-offset_least None s f = int_least_form f
-offset_least (Some m) s f = int_least_form f
+offset_least = offset_beside Least VarIntForm (λ g m s f. int_least_form f)
 
 fields_least : {l s : List ℕ} → FieldsForm VarUIntForm l s → Least s (varuints l)
-unfolding in_turn
-fields_least FieldsForm.none = least_nothing [] (λ e. refl)
-fields_least (FieldsForm.more f q) = least_append (uint_least f) (fields_least q)
+fields_least f =
+    fields_beside Least VarUIntForm (λ v s g. uint_least g) (least_nothing [] (λ e. refl)) (λ a b c d p q. least_append p q) f
 
 fraction_least : {d c : ℕ} {s : List ℕ} → FractionForm d c s → Least s (fraction_bytes d c)
 unfolding fraction_bytes

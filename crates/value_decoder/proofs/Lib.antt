@@ -4,5 +4,6 @@ pub mod UtcBody
 pub mod LocalFields
 pub mod PartsTested
 pub mod PartsReadings
+pub mod WrittenParts
 pub mod Exact
 pub mod ReadBy

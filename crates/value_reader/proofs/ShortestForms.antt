@@ -13,9 +13,9 @@ use Rattle.std.specs.Prelude.{Option, None, Some, Result, Ok, Err}
 use Rattle.std.specs.Option.{option_map}
 use Rattle.places.proofs.Below.{Below, below_take, below_drop, below_after}
 use Rattle.ion.specs.Numbers.VarUInt.{varuint, read_var_uint}
-use Rattle.ion.specs.Numbers.VarInt.{signed, varint, signed_magnitude, read_var_int}
+use Rattle.ion.specs.Numbers.VarInt.{signed, signed_magnitude, read_var_int}
 use Rattle.ion.specs.Numbers.Int.{int, read_int}
-use Rattle.ion.specs.Calls.Contents.{in_turn}
+use Rattle.ion.specs.Pair.Offset.{WithinDay}
 use Rattle.ion.specs.Value.Encode.{offset_bytes, varuints, field_list, field_count, fraction_bytes, body_from}
 use Rattle.ion.specs.Value.Decode.{Parts, decode_parts, body_in}
 use Rattle.ion.specs.Value.Decode.{shortest, coefficient_from, fraction_from, decode_fraction, decode_body}
@@ -31,6 +31,7 @@ use Rattle.binary.proofs.Ints.{read_int_lem, read_int_is}
 use Rattle.timestamp_binary.proofs.BodyRuns.{no_fraction, fraction_bytes_lem}
 use Rattle.value_decoder.specs.BodyParts.{Encodable}
 use Rattle.value_decoder.proofs.Filled.{filled_is, encodable_with, fields_at, restored, restored_fields}
+use Rattle.value_decoder.proofs.WrittenParts.{fields_written, offset_written, fields_beside, offset_beside}
 use Rattle.value_decoder.proofs.Exact.{Exact, found_one, Decodes, parts_back, parts_is}
 use Rattle.value_reader.proofs.FormSteps.{fraction_next}
 
@@ -70,25 +71,17 @@ exact =
 
 -- ---- the offset and the fields
 
-offset_form : (o : Option OffsetMinutes) → OffsetForm Int o (offset_bytes o)
-unfolding offset_bytes varint
-offset_form None = refl
-offset_form (Some m) = refl
+offset_form : (o : Option OffsetMinutes) → WithinDay o → OffsetForm Int o (offset_bytes o)
+offset_form = offset_written Int (λ g m h. refl)
 
 form_offset : (o : Option OffsetMinutes) (s : List ℕ) → OffsetForm Int o s → s ≡ offset_bytes o
-unfolding offset_bytes varint
-form_offset None s e = e
-form_offset (Some m) s e = e
+form_offset = offset_beside (λ (s t : List ℕ). s ≡ t) Int (λ g m s e. e)
 
-fields_form : (l : List ℕ) → FieldsForm UInt l (varuints l)
-unfolding in_turn
-fields_form [] = FieldsForm.none
-fields_form (v ∷ l) = FieldsForm.more refl (fields_form l)
+fields_form : (l : List ℕ) → Below 16384 l → FieldsForm UInt l (varuints l)
+fields_form = fields_written UInt (λ v h. refl)
 
 form_fields : {l s : List ℕ} → FieldsForm UInt l s → s ≡ varuints l
-unfolding in_turn
-form_fields FieldsForm.none = refl
-form_fields (FieldsForm.more e f) = ap₂ ◌++◌ e (form_fields f)
+form_fields f = fields_beside (λ (s t : List ℕ). s ≡ t) UInt (λ v s e. e) refl (λ a b c d e f. ap₂ ◌++◌ e f) f
 
 -- ---- the fraction
 
@@ -161,15 +154,16 @@ module _ (x : Body) (p : Encodable x) where
   unfolding parts body_from
   stands =
       let r = restored x p in
+      let small = below_take 16384 (field_count x.utc.precision) (field_list x.utc) (lit< tt) p.small in
       record {
         offset_bytes = offset_bytes x.offset;
         fields_bytes = varuints there;
         fraction_bytes = fraction_bytes x.utc.digits x.coefficient;
         bytes = refl;
-        offset = offset_form x.offset;
+        offset = offset_form x.offset p.within_day;
         within = p.within_day;
-        fields = fields_form there;
-        small = below_take 16384 (field_count x.utc.precision) (field_list x.utc) (lit< tt) p.small;
+        fields = fields_form there small;
+        small = small;
         most = r.number.most;
         counted = r.counted;
         fewer = λ q. no_fraction x.utc.digits x.coefficient (p.no_digits (r.number.fewer q));
