@@ -19,14 +19,16 @@ change() { # PLACE VALUE: a copy with another byte there
 }
 
 # The first record of each kind in each source: for each byte of its answer a line with the source, the kind, the byte's place and the byte.
-# A length among these is left out: with another one the file is broken.
+# A length or an argument among these is left out: with another length the file is broken.
 od -An -v -tu1 "$file" | awk '
     { for (i = 1; i <= NF; i++) b[n++] = $i }
     END {
-        split("48 16 16 32 16 16 0 32 9 9 10 0 0 24 0 10 0", from)
+        split("48 16 16 32 16 16 0 32 9 9 10 0 0 28 0 10 0", from)
         # Where the answer stands before a run of bytes, its end; where a length stands in it, that place.
-        end[7] = end[17] = 18; end[12] = 17; end[13] = 26; end[15] = 2; end[16] = 64
-        length_at[5] = length_at[6] = 17; length_at[14] = 25
+        end[7] = end[17] = 18; end[12] = 17; end[13] = 31; end[15] = 3; end[16] = 80
+        left_out[5] = left_out[6] = 17; left_out[14] = 29
+        # The layout of a scan that is read is an argument.
+        left_out[13] = 1
         for (at = 0; at < n; at += 2 + b[at + 1]) {
             kind = b[at]
             if (kind == 0) source++
@@ -34,7 +36,7 @@ od -An -v -tu1 "$file" | awk '
                 seen[source, kind] = 1
                 last = kind in end ? end[kind] : b[at + 1]
                 for (i = from[kind]; i < last; i++)
-                    if (!(kind in length_at && i == length_at[kind])) print source, kind, at + 2 + i, b[at + 2 + i]
+                    if (!(kind in left_out && i == left_out[kind])) print source, kind, at + 2 + i, b[at + 2 + i]
             }
         }
     }' >"$work/answers"

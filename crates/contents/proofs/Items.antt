@@ -86,3 +86,9 @@ module _ {A : Type 0} {read : Reader A} (a : Advances read) where
 
     pub of_contents : (s : List ℕ) → P s (contents read s)
     of_contents s = upto (length s) s (omega arith)
+
+  -- there are no more items than bytes
+  pub contents_few : (s : List ℕ) → length (contents read s).items ≤ length s
+  contents_few =
+      of_contents (λ (s : List ℕ) (c : Contents A). length c.items ≤ length s) (omega arith) (λ s r e. omega arith)
+      (λ s c x n e h. omega (arith, h, shorter s x n e))

@@ -16,6 +16,10 @@ module _ {A : Type 0} where
   AllStored Stored [] = Unit
   AllStored Stored (x ∷ xs) = Stored x × AllStored Stored xs
 
+  pub all_stored : {Stored Other : A → Type 0} → ((x : A) → Stored x → Other x) → (xs : List A) → AllStored Stored xs → AllStored Other xs
+  all_stored f [] p = tt
+  all_stored f (x ∷ xs) p = (f x p.0, all_stored f xs p.1)
+
 module _ {A : Type 0} {read : Reader A} {bytes : A → List ℕ} {Stored : A → Type 0} (a : Advances read) (i : Inverse read bytes Stored) where
   -- whatever follows them
   pub contents_written : (xs : List A) (r : List ℕ) → AllStored Stored xs

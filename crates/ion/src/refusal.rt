@@ -46,8 +46,8 @@ pub enum Refusal {
     Words,
     // W above 86,400 seconds.
     Window,
-    // A 257th tag.
-    Tags,
+    // A 257th post, a site and a tag.
+    Posts,
 }
 
 impl Refusal {

@@ -6,17 +6,19 @@ use native.Mathlib.Omega.{arith}
 use lib.Dec.{lit<}
 use lib.ListN.{length, take, drop}
 use mathlib.Core.Bool.{true, false}
+use borrow.Author.Tests.{eqb-true, eqb-false}
 use Rattle.std.specs.Prelude.{Ok, Err, ◌==◌}
 use Rattle.places.proofs.Below.{Below, below_take, below_drop}
 use Rattle.ion.specs.Calls.Output.{Run}
-use Rattle.ion.specs.Calls.Contents.{in_turn}
+use Rattle.ion.specs.Calls.Contents.{contents, in_turn}
 use Rattle.ion.specs.Calls.Stamps.{text_line, stop_line, output_of}
 use Rattle.ion.specs.Value.ReadPaddedValue.{read_padded_value}
 use Rattle.ion.specs.declared.refusal.Refusal.{Refusal}
 use Rattle.ion.specs.declared.Timestamp.{Timestamp}
 use Rattle.output.proofs.Stores.{length_over}
 use Rattle.output.proofs.Runs.{run_none, run_two, run_is}
-use Rattle.contents.proofs.Passing.{Passed, pass_start, pass_end, pass_stop, length_rest, pass_less, pass_next}
+use Rattle.contents.proofs.Items.{contents_stop}
+use Rattle.contents.proofs.Passing.{Passed, pass_start, pass_end, pass_next, none_left, length_rest, pass_less, item_first}
 use Rattle.ion.proofs.InTurn.{in_turn_last}
 use Rattle.padded_reader.proofs.PaddedLengths.{padded_within}
 use Rattle.listing.proofs.Lines.{value_advances, output_end, output_stop}
@@ -24,7 +26,7 @@ use Rattle.listing.proofs.Lines.{value_advances, output_end, output_stop}
 -- the input is values and the bytes left; the values are listed in the first `end` bytes of e, which was d and has room for all
 pub record Listed (input left d e : List ℕ) (end : ℕ) : Type 0 where
   pub stamps : List Timestamp
-  pub passed : Passed read_padded_value input left stamps
+  pub passed : Passed (contents read_padded_value input) (contents read_padded_value left) stamps
   pub run : Run d 0 (in_turn text_line stamps) e end
   pub few : end + 15 * length left ≤ 15 * length input
   pub room : 15 * length input + 8 ≤ length d
@@ -35,7 +37,7 @@ unfolding in_turn
 start input d h =
     record {
       stamps = [];
-      passed = pass_start read_padded_value input;
+      passed = pass_start (contents read_padded_value input);
       run = run_none d 0;
       few = omega arith;
       room = h;
@@ -51,12 +53,17 @@ module _ {input left d e : List ℕ} {end : ℕ} (p : Listed input left d e end)
 
   -- the end of the input
   pub finish : length input ≤ 65536 → (length left == 0) ≡ true → Run d 0 (output_of input) e end
-  finish short h = run_is p.run (sym (output_end input short (pass_end p.passed h)))
+  finish short h =
+      let none = none_left read_padded_value left (eqb-true (length left) 0 h) in
+      run_is p.run (sym (output_end input short (pass_end p.passed none)))
 
   -- the last line
   pub stop : {f : Refusal} → read_padded_value left ≡ Err f → length input ≤ 65536 → (length left == 0) ≡ false
       → {g : List ℕ} {n : ℕ} → Run e end (stop_line f) g n → n ≤ length d → Run d 0 (output_of input) g n
-  stop z short h q l = run_is (run_two p.run q l) (sym (output_stop input short (pass_stop p.passed h z)))
+  stop z short h q l =
+      let some = eqb-false (length left) 0 h in
+      let stopped = contents_stop read_padded_value left (omega (arith, some)) z in
+      run_is (run_two p.run q l) (sym (output_stop input short (pass_end p.passed stopped)))
 
   -- one more value
   module _ {s : Timestamp} {taken : ℕ} (z : read_padded_value left ≡ Ok (s, taken)) where
@@ -71,7 +78,7 @@ module _ {input left d e : List ℕ} {end : ℕ} (p : Listed input left d e end)
     next q h =
         record {
           stamps = p.stamps ++ (s ∷ []);
-          passed = pass_next value_advances z p.passed;
+          passed = pass_next p.passed (item_first value_advances z);
           run = run_is (run_two p.run q (omega (arith, line_room))) (sym (in_turn_last text_line p.stamps s));
           few = omega (arith, few_next, length_rest left taken);
           room = p.room;

@@ -1,3 +1,3 @@
 -- What the proofs of several functions use.
-pub mod Left
 pub mod Parts
+pub mod Steps

@@ -1,5 +1,5 @@
--- The last kept scans l in the front of an array: how many, which place a tag has, and a scan put in its place. Assumes nothing.
-use Rattle.std.proofs.Common.{◌≡◌, refl, sym, ap, ap₂, ◌∙◌, ℕ, suc, ◌+◌, ◌<◌, cond, ltb, subst, arith}
+-- The last kept scans l in the front of an array: how many, which place a post has, and a scan put in its place. Assumes nothing.
+use Rattle.std.proofs.Common.{◌≡◌, refl, sym, ap, ap₂, ◌∙◌, ℕ, suc, ◌+◌, ◌<◌, true, cond, ltb, subst, arith}
 use Rattle.std.proofs.Common.{List, [], ◌∷◌, ◌++◌, length, take, get_or, set, length-set}
 use Rattle.std.proofs.lemmas.List.{get_or_default, get_or-take, get_or-set_same, get_or-set_other}
 use Rattle.std.specs.Prelude.{Option, Some, None}
@@ -52,10 +52,10 @@ module _ {n : ℕ} {a l : List Scan} {b : List ℕ} (k : IsKept n a b) (v : take
   apart : Apart l
   apart = subst Apart v k.apart
 
-  -- ---- the place of x's tag
+  -- ---- the place of x's post
 
-  pub place_found : (x : Scan) (i : ℕ) (d : Scan) → i < n → (get_or a i d).tag ≡ x.tag → i ≡ place_of x l
-  place_found x i d h e = sym (place_at x l i d apart (omega (arith, kept_length)) (ap (λ (y : Scan). y.tag) (kept_at i d h) ∙ e))
+  pub place_found : (x : Scan) (i : ℕ) (d : Scan) → i < n → same_post x (get_or a i d) ≡ true → i ≡ place_of x l
+  place_found x i d h e = sym (place_at x l i d apart (omega (arith, kept_length)) (ap (same_post x) (kept_at i d h) ∙ e))
 
   -- ---- x put in its place i: the next one, or one of them
 

@@ -1,7 +1,9 @@
--- The last kept scans are of tags apart from one another, so each stands in the place of its tag. Assumes nothing.
-use Rattle.std.proofs.Common.{◌≡◌, refl, sym, ap, ◌∙◌, ℕ, zero, suc, ◌<◌, Bool, true, false}
+-- The last kept scans are of posts apart from one another, so each stands in the place of its post. Assumes nothing.
+use Rattle.std.proofs.Common.{◌≡◌, refl, sym, ap, ap₂, ◌∙◌, ℕ, zero, suc, ◌<◌, Bool, true, false, ◌&&◌, eqb}
+use Rattle.std.proofs.lemmas.Bool.{false≢true}
 use Rattle.std.proofs.Common.{cond, List, [], ◌∷◌, ◌++◌, ◌≤◌, length, get_or, set, length-set, arith}
-use borrow.Author.Tests.{eqb-true, eqb-false, eq-eqb, ne_eqb}
+use mathlib.Core.Bool.{and-eq-true_iff}
+use borrow.Author.Tests.{eqb-true, eq-eqb}
 use native.Mathlib.Decide.{dec_lt}
 use Rattle.scan_report.specs.Kept.{None, Apart}
 use Rattle.scans.specs.Tally.{same_post, place_of, with_last, last_after}
@@ -9,6 +11,21 @@ use Rattle.scan_laws.proofs.Tallies.{place_within, last_length}
 use Rattle.scans.specs.declared.Scan.{Scan}
 use Rattle.scans.specs.declared.Kind.{Kind}
 use Rattle.scans.specs.declared.Kind.TheVariants.{Double, Kept, Gap, Backward}
+
+-- the same site and tag
+same_is : (x y : Scan) → same_post x y ≡ true → (x.site ≡ y.site) × (x.tag ≡ y.tag)
+same_is x y q =
+    let both = (and-eq-true_iff (eqb x.site y.site) (eqb x.tag y.tag)).0 q in
+    (eqb-true x.site y.site both.0, eqb-true x.tag y.tag both.1)
+
+same_turned : (x y : Scan) → same_post x y ≡ false → same_post y x ≡ false
+same_turned x y q = go (same_post y x) refl
+  where
+    go : (t : Bool) → same_post y x ≡ t → t ≡ false
+    go true r =
+        let e = same_is y x r in
+        absurd (false≢true (sym q ∙ ap₂ ◌&&◌ (eq-eqb x.site y.site (sym e.0)) (eq-eqb x.tag y.tag (sym e.1))))
+    go false r = refl
 
 none_first : (x y : Scan) (l : List Scan) → None x (y ∷ l) → (same_post x y ≡ false) × None x l
 unfolding place_of
@@ -22,13 +39,13 @@ none_before : (x y : Scan) (l : List Scan) → same_post x y ≡ false → None 
 unfolding place_of
 none_before x y l q e = rw (q, e)
 
--- scans of one tag have one place
-same_place : (x y : Scan) (l : List Scan) → x.tag ≡ y.tag → place_of x l ≡ place_of y l
+-- scans of one post have one place
+same_place : (x y : Scan) (l : List Scan) → same_post x y ≡ true → place_of x l ≡ place_of y l
 unfolding place_of
-same_place x y [] e = refl
-same_place x y (z ∷ l) e = rw (e, same_place x y l e)
+same_place x y [] q = refl
+same_place x y (z ∷ l) q = let e = same_is x y q in rw (e.0, e.1, same_place x y l q)
 
--- a scan of another tag put in its place
+-- a scan of another post put in its place
 none_last : (x y : Scan) (l : List Scan) → same_post y x ≡ false → None y l → None y (with_last x l)
 unfolding with_last
 none_last x y [] q e = none_before y x [] q e
@@ -38,16 +55,13 @@ none_last x y (z ∷ l) q e = go (none_first y z l e) (none_last x y l q) (same_
     go n h true = none_before y x l q n.1
     go n h false = none_before y z (with_last x l) n.0 (h n.1)
 
-same_turned : (x y : Scan) → same_post x y ≡ false → same_post y x ≡ false
-same_turned x y q = ne_eqb y.tag x.tag (λ e. eqb-false x.tag y.tag q (sym e))
-
 pub apart_last : (x : Scan) (l : List Scan) → Apart l → Apart (with_last x l)
 unfolding with_last place_of
 apart_last x [] p = (refl, tt)
 apart_last x (y ∷ l) p = go (apart_last x l p.1) (same_post x y) refl
   where
     go : Apart (with_last x l) → (t : Bool) → same_post x y ≡ t → Apart (cond t (x ∷ l) (y ∷ with_last x l))
-    go h true q = (same_place x y l (eqb-true x.tag y.tag q) ∙ p.0, p.1)
+    go h true q = (same_place x y l q ∙ p.0, p.1)
     go h false q = (none_last x y l (same_turned x y q) p.0, h)
 
 pub apart_after : (k : Kind) (x : Scan) (l : List Scan) → Apart l → Apart (last_after k x l)
@@ -56,15 +70,16 @@ apart_after Kept x l p = apart_last x l p
 apart_after Gap x l p = apart_last x l p
 apart_after Backward x l p = apart_last x l p
 
--- so a scan whose tag is that of the one at i has the place i
-pub place_at : (x : Scan) (l : List Scan) (i : ℕ) (d : Scan) → Apart l → i < length l → (get_or l i d).tag ≡ x.tag → place_of x l ≡ i
+-- so a scan whose post is that of the one at i has the place i
+pub place_at : (x : Scan) (l : List Scan) (i : ℕ) (d : Scan) → Apart l → i < length l → same_post x (get_or l i d) ≡ true
+    → place_of x l ≡ i
 unfolding place_of
 place_at x [] i d p h e = absurd (omega arith)
-place_at x (y ∷ l) zero d p h e = rw (eq-eqb x.tag y.tag (sym e))
+place_at x (y ∷ l) zero d p h e = rw e
 place_at x (y ∷ l) (suc i) d p h e = go (place_at x l i d p.1 (omega arith) e) (same_post x y) refl
   where
     go : place_of x l ≡ i → (t : Bool) → same_post x y ≡ t → cond t 0 (suc (place_of x l)) ≡ suc i
-    go f true q = absurd (omega (arith, f, same_place x y l (eqb-true x.tag y.tag q), p.0))
+    go f true q = absurd (omega (arith, f, same_place x y l q, p.0))
     go f false q = ap suc f
 
 -- ---- a scan put in its place

@@ -1,11 +1,12 @@
 -- A file tallied part way: the scans passed, the last kept of them, and the counts. Assumes nothing.
 use Rattle.std.proofs.Common.{◌≡◌, sym, ap, ◌∙◌, ℕ, ◌≤◌, ◌<◌}
-use Rattle.std.proofs.Common.{List, [], ◌∷◌, ◌++◌, length, subst, arith}
+use Rattle.std.proofs.Common.{List, [], ◌∷◌, ◌++◌, length, length-append, subst, arith}
 use Rattle.std.specs.Prelude.{Result, Err}
 use borrow.Author.Tests.{lt-ltb, le-ltb, eq-eqb}
 use Rattle.ion.specs.Calls.Contents.{Contents, contents_with}
 use Rattle.ion.specs.declared.refusal.Refusal.{Refusal}
 use Rattle.ion.specs.declared.refusal.Refusal.TheVariants as refusal
+use Rattle.contents.proofs.Passing.{Passed, pass_start, pass_end, pass_next}
 use Rattle.scans.specs.File.{contents_of}
 use Rattle.scans.specs.Tally.{Tally, no_tally, kind_of, no_counts, counts_of, added, last_after, place_of, tallied, tally_of, tally_from}
 use Rattle.scans.specs.Report.{file_tally, file_check}
@@ -15,57 +16,68 @@ use Rattle.scans.specs.declared.Kind.{Kind}
 use Rattle.scans.specs.declared.Kind.TheVariants.{Kept}
 use Rattle.scan_report.specs.Tallied.{tally_with}
 use Rattle.scan_report.proofs.Posts.{after_few}
+use Rattle.scan_laws.proofs.Files.{file_few}
 use Rattle.scan_laws.proofs.Tallies.{place_within, Sums, sums, all_counted, last_new, never_fewer, tally_append, tally_next}
 use Rattle.scan_binary.specs.Scans.{Begins}
-use Rattle.scan_binary.proofs.Left.{Left, left_all, left_end, left_next}
 
 -- ---- the check of a file, by what it holds
 
 module _ (w g : ℕ) (s : List ℕ) where
-  check_tags : 256 < length (file_tally w g s).last → file_check w g s ≡ Err refusal.Tags
+  check_posts : 256 < length (file_tally w g s).last → file_check w g s ≡ Err refusal.Posts
   unfolding file_check
-  check_tags h = rw (lt-ltb 256 (length (file_tally w g s).last) h)
+  check_posts h = rw (lt-ltb 256 (length (file_tally w g s).last) h)
 
   check_ending : length (file_tally w g s).last ≤ 256 → file_check w g s ≡ (contents_of s).ending
   unfolding file_check
   check_ending h = rw (le-ltb 256 (length (file_tally w g s).last) h)
 
--- ---- part way: the bytes before t are scans, which tally to the counts c and the last kept scans l
+-- ---- part way: the scans passed tally to the counts c and the last kept scans l; t is what the file s holds after them
 
-pub record Tallying (w g : ℕ) (s t : List ℕ) (c : Counts) (l : List Scan) : Type 0 where
+pub record Tallying (w g : ℕ) (s : List ℕ) (t : Contents Scan) (c : Counts) (l : List Scan) : Type 0 where
   pub scans : List Scan
-  pub left : Left s t scans
+  pub passed : Passed (contents_of s) t scans
   pub tally : tally_of w g scans ≡ tally_with l c
-  pub tags : length l ≤ 256
+  pub posts : length l ≤ 256
 
-pub start : (w g : ℕ) (s : List ℕ) (l : List Scan) → l ≡ [] → Tallying w g s s no_counts l
+pub start : (w g : ℕ) (s : List ℕ) (t : Contents Scan) (l : List Scan) → t ≡ contents_of s → l ≡ [] → Tallying w g s t no_counts l
 unfolding tally_from
-start w g s l e =
+start w g s t l f e =
     record {
       scans = [];
-      left = left_all s;
+      passed = rw f (pass_start (contents_of s));
       tally = ap (λ (m : List Scan). tally_with m no_counts) (sym e);
-      tags = omega (arith, ap length e);
+      posts = omega (arith, ap length e);
     }
 
-module _ {w g : ℕ} {s t : List ℕ} {c : Counts} {l : List Scan} (p : Tallying w g s t c l) where
+module _ {w g : ℕ} {s : List ℕ} {t : Contents Scan} {c : Counts} {l : List Scan} (p : Tallying w g s t c l) where
   -- no scan is left, or none that is accepted
-  pub ended : {e : Result Unit Refusal} → contents_of t ≡ contents_with [] e → (file_check w g s ≡ e) × (file_tally w g s ≡ tally_with l c)
+  pub ended : {e : Result Unit Refusal} → t ≡ contents_with [] e → (file_check w g s ≡ e) × (file_tally w g s ≡ tally_with l c)
   ended h =
-      let d = left_end p.left h in
+      let d = pass_end p.passed h in
       let q = ap (λ (d : Contents Scan). tally_of w g d.items) d ∙ p.tally in
-      let few : length (file_tally w g s).last ≤ 256 = omega (arith, ap (λ (t : Tally). length t.last) q, p.tags) in
+      let few : length (file_tally w g s).last ≤ 256 = omega (arith, ap (λ (t : Tally). length t.last) q, p.posts) in
       (check_ending w g s few ∙ ap (λ (d : Contents Scan). d.ending) d, q)
 
   -- a scan more
-  module _ {x : Scan} {u : List ℕ} (b : Begins t x u) where
+  module _ {x : Scan} {u : Contents Scan} (b : Begins t u x) where
+    abbrev passed : Passed (contents_of s) u (p.scans ++ (x ∷ []))
+    passed = pass_next p.passed b.contents
+
     -- so each count is less than the number of bytes
     pub bounded : (c.scans < length s) × (c.doubles < length s) × (c.kept < length s) × (c.gaps < length s) × (c.backward < length s)
     bounded =
         let e = ap (λ (t : Tally). t.counts) p.tally in
         let q : Sums c = subst Sums e (sums w g p.scans) in
         let n = ap (λ (c : Counts). c.scans) (sym e) ∙ all_counted w g p.scans in
-        let few : c.scans < length s = omega (arith, n, p.left.few, b.fewer) in
+        let all = ap (λ (d : Contents Scan). length d.items) passed.whole in
+        let few : c.scans < length s = omega (
+          arith,
+          n,
+          all,
+          length-append (p.scans ++ (x ∷ [])) u.items,
+          length-append p.scans (x ∷ []),
+          file_few s,
+        ) in
         (few, omega (arith, q.all), omega (arith, q.all), omega (arith, q.all, q.steps), omega (arith, q.all, q.steps))
 
     abbrev more : Tally
@@ -78,9 +90,9 @@ module _ {w g : ℕ} {s t : List ℕ} {c : Counts} {l : List Scan} (p : Tallying
     next room =
         record {
           scans = p.scans ++ (x ∷ []);
-          left = left_next p.left b;
+          passed = passed;
           tally = more_is;
-          tags = after_few 256 (kind_of w g l x) x l p.tags room;
+          posts = after_few 256 (kind_of w g l x) x l p.posts room;
         }
 
     -- the same of what the code has: the place i, the kind k, the counts d and the last kept scans m
@@ -88,17 +100,17 @@ module _ {w g : ℕ} {s t : List ℕ} {c : Counts} {l : List Scan} (p : Tallying
         → d ≡ added c (counts_of k) → m ≡ last_after (kind_of w g l x) x l → Tallying w g s u d m
     next_by place room kind count last = rw (last, count, kind) (next (omega (arith, place)))
 
-    -- a tag more than there is room for
-    pub stop_full : {i : ℕ} → i ≡ place_of x l → 256 ≤ i → file_check w g s ≡ Err refusal.Tags
+    -- a post more than there is room for
+    pub stop_full : {i : ℕ} → i ≡ place_of x l → 256 ≤ i → file_check w g s ≡ Err refusal.Posts
     unfolding kind_of
     stop_full {i} place full =
-        let new : place_of x l ≡ length l = omega (arith, p.tags, place_within x l, place) in
+        let new : place_of x l ≡ length l = omega (arith, p.posts, place_within x l, place) in
         let kept : kind_of w g l x ≡ Kept = rw (eq-eqb (place_of x l) (length l) new) in
         let last = ap (λ (t : Tally). length t.last) more_is ∙ ap (λ (k : Kind). length (last_after k x l)) kept in
-        let ys = (contents_of u).items in
+        let ys = u.items in
         let xs = p.scans ++ (x ∷ []) in
-        let all = ap (λ (d : Contents Scan). tally_of w g d.items) (left_next p.left b).rest ∙ tally_append w g no_tally xs ys in
-        check_tags w g s
+        let all = ap (λ (d : Contents Scan). tally_of w g d.items) passed.whole ∙ tally_append w g no_tally xs ys in
+        check_posts w g s
         (omega (
           arith,
           last,

@@ -4,11 +4,11 @@ use Rattle.ion.specs.Pair.Count.{count_of}
 use Rattle.scans.specs.Tally.{no_scan, place_of}
 use Rattle.scans.specs.declared.Scan.{Scan}
 
--- none of the scans l is of x's tag
+-- none of the scans l is of x's post
 abbrev pub None : Scan → List Scan → Type 0
 None x l = place_of x l ≡ length l
 
--- no scan is of the tag of one before it
+-- no scan is of the post of one before it
 abbrev pub Apart : List Scan → Type 0
 Apart [] = Unit
 Apart (y ∷ l) = None y l × Apart l

@@ -1,7 +1,7 @@
-// The last kept scan of each tag, in the order of the tags' first scans.
+// The last kept scan of each post, a site and a tag, in the order of the posts' first scans.
 ghost use Rattle.std.specs.Prelude.{◌≡◌, ◌≤◌, ◌<◌, ◌+◌, List, [], length, get_or};
 ghost use Rattle.ion.specs.Pair.Count.{count_of};
-ghost use Rattle.scans.specs.Tally.{no_scan, place_of, with_last};
+ghost use Rattle.scans.specs.Tally.{no_scan, place_of, same_post, with_last};
 ghost use Rattle.scans.specs.Report.{word_count, words_over};
 
 use ion::Timestamp;
@@ -9,17 +9,24 @@ use order::Count;
 use scans::Scan;
 use std::marker::Model;
 
-// How many tags there is room for.
-pub(crate) const TAG_COUNT: usize = 256;
+// How many posts there is room for.
+pub(crate) const POST_COUNT: usize = 256;
 
 // How many words they have.
-pub(crate) const WORD_COUNT: usize = 768;
+pub(crate) const WORD_COUNT: usize = 1024;
 
-// The hint of a tag: the high bits of a product, so that tags alike in their low or high bits have different ones.
-fn hint_of(tag: u32) -> usize
+// The hint of a post: the high bits of a product, so that sites or tags alike in their low or high bits have different ones.
+fn hint_of(x: Scan) -> usize
     ensures { result < 1024 }
 {
-    (tag.wrapping_mul(0x9E37_79B1) >> 22) as usize
+    let post = (x.site as u64) << 32 | x.tag as u64;
+    (post.wrapping_mul(0x9E37_79B9_7F4A_7C15) >> 54) as usize
+}
+
+fn is_same_post(x: Scan, y: Scan) -> bool
+    ensures { result ≡ same_post x y }
+{
+    x.site == y.site && x.tag == y.tag
 }
 
 #[derive(Drop)]
@@ -27,7 +34,7 @@ pub(crate) struct LastKept {
     // Arrays and `len`, as there is no heap; no array of pairs, as a search walks the scans alone, and they are what a contract sees.
     scans: [Scan; 256],
     counts: [Count; 256],
-    // Where the tag of each hash may stand. A wrong hint costs a search.
+    // Where the post of each hint may stand. A wrong one costs a search.
     hints: [u8; 1024],
     len: usize,
 }
@@ -49,6 +56,7 @@ impl LastKept {
         ensures { result ≡ [] }
     {
         let none = Scan {
+            site: 0,
             tag: 0,
             guard: 0,
             stamp: Timestamp {
@@ -70,21 +78,21 @@ impl LastKept {
         self.len
     }
 
-    // The place of the tag of `x`: past the last where it has none, which is where it is kept, so no Option.
+    // The place of the post of `x`: past the last where it has none, which is where it is kept, so no Option.
     pub fn place(&self, x: Scan) -> usize
         ensures { result ≡ place_of x self.now }
     {
-        let hint = self.hints[hint_of(x.tag)] as usize;
-        if hint < self.len && self.scans[hint].tag == x.tag {
+        let hint = self.hints[hint_of(x)] as usize;
+        if hint < self.len && is_same_post(x, self.scans[hint]) {
             return hint;
         }
         self.scans[..self.len]
             .iter()
-            .position(|kept| kept.tag == x.tag)
+            .position(|kept| is_same_post(x, *kept))
             .unwrap_or(self.len)
     }
 
-    // The count of the scan at a place. A place below 256 stays a number: the tally tests it once, for the refusal of a 257th tag.
+    // The count of the scan at a place. A place below 256 stays a number: the tally tests it once, for the refusal of a 257th post.
     pub fn count(&self, place: usize) -> Count
         requires place { place < length self.now }
         requires room { place < 256 }
@@ -103,13 +111,13 @@ impl LastKept {
     {
         self.scans[place] = x;
         self.counts[place] = count;
-        self.hints[hint_of(x.tag)] = (place % 256) as u8;
+        self.hints[hint_of(x)] = (place % 256) as u8;
         if place == self.len {
             self.len += 1;
         }
     }
 
-    // Puts the words of the scans into the first 768, and zeros after them.
+    // Puts the words of the scans into the first 1,024, and zeros after them.
     pub fn write_words(&self, words: &mut [u64])
         requires { word_count ≤ length words.old }
         ensures { words.new ≡ words_over words.old self.now }
@@ -117,10 +125,13 @@ impl LastKept {
         // An index: of the words behind chunks of an `iter_mut` a proof knows nothing afterwards, and the zeros begin at it.
         let mut at = 0;
         for x in &self.scans[..self.len] {
-            words[at] = x.tag as u64;
-            words[at + 1] = x.stamp.packed_fields;
-            words[at + 2] = x.stamp.attoseconds;
-            at += 3;
+            words[at..at + 4].copy_from_slice(&[
+                x.site as u64,
+                x.tag as u64,
+                x.stamp.packed_fields,
+                x.stamp.attoseconds,
+            ]);
+            at += 4;
         }
         words[at..WORD_COUNT].fill(0);
     }

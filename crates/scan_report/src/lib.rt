@@ -1,4 +1,4 @@
-// The report over a file of scans: doubles, gaps, backward steps, and the last kept scan of each tag.
+// The report over a file of scans: doubles, gaps, backward steps, and the last kept scan of each site and tag.
 #![tactic(auto)]
 
 mod kind;
@@ -16,8 +16,8 @@ use tally::tally;
 // The largest W, in seconds.
 const MAX_WINDOW: u32 = 86_400;
 
-// Reports on the file `s`: a scan less than `w` seconds from the last kept one of its tag is a double; a kept one more than
-// `g` seconds later is a gap. The first 768 of `words` get the last kept scan of each tag, three words for each, and zeros.
+// Reports on the file `s`: a scan less than `w` seconds from the last kept one of its post is a double; a kept one more than
+// `g` seconds later is a gap. The first 1,024 of `words` get the last kept scan of each post, four words for each, and zeros.
 #[tactic(auto, unfolding(scans::specs::Report::lent_check, scans::specs::Report::report_of, scans::specs::Report::words_after))]
 pub fn report(s: &[u8], w: u32, g: u32, words: &mut [u64]) -> Result<Counts, Refusal>
     ensures value { result ≡ report_of words.old w g s.now }

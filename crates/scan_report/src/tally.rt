@@ -6,7 +6,7 @@ ghost use Rattle.scans.specs.Tally.{kind_of, last_after, place_of};
 ghost use Rattle.scan_report.specs.Tallied.{TalliedTo};
 
 use crate::kind::{counted, kind_beside};
-use crate::last_kept::{LastKept, TAG_COUNT};
+use crate::last_kept::{LastKept, POST_COUNT};
 use ion::Refusal;
 use order::Count;
 use scan_binary::Scans;
@@ -20,7 +20,7 @@ const NO_COUNTS: Counts = Counts {
     backward: 0,
 };
 
-// What `x` is, whose tag has that place.
+// What `x` is, whose post has that place.
 #[tactic(auto, using(scan_laws::proofs::Tallies::places), unfolding(scans::specs::Tally::kind_of))]
 fn kind_of(last: &LastKept, place: usize, w: u32, g: u32, x: Scan, count: Count) -> Kind
     requires place { place ≡ place_of x last.now }
@@ -34,7 +34,7 @@ fn kind_of(last: &LastKept, place: usize, w: u32, g: u32, x: Scan, count: Count)
     kind_beside(w, g, last.count(place), count)
 }
 
-// What `x` is, whose tag has that place; a kept one takes it.
+// What `x` is, whose post has that place; a kept one takes it.
 fn take_scan(last: &mut LastKept, place: usize, w: u32, g: u32, x: Scan) -> Kind
     requires place { place ≡ place_of x last.old }
     requires room { place < 256 }
@@ -51,17 +51,17 @@ fn take_scan(last: &mut LastKept, place: usize, w: u32, g: u32, x: Scan) -> Kind
     kind
 }
 
-// The counts of a file, or the refusal of a 257th tag or of the file's damage; and the last kept scans.
+// The counts of a file, or the refusal of a 257th post or of the file's damage; and the last kept scans.
 pub(crate) fn tally(s: &[u8], w: u32, g: u32, last: &mut LastKept) -> Result<Counts, Refusal>
     requires { last.old ≡ [] }
     ensures { TalliedTo w g s.now last.new result }
 {
     let mut counts = NO_COUNTS;
-    for scan in Scans(s) {
+    for scan in Scans::new(s) {
         let x = scan?;
         let place = last.place(x);
-        if TAG_COUNT <= place {
-            return Err(Refusal::Tags);
+        if POST_COUNT <= place {
+            return Err(Refusal::Posts);
         }
         let kind = take_scan(last, place, w, g, x);
         counts = counted(counts, kind);

@@ -1,4 +1,4 @@
--- A number of a scan, its tag or its guard: a VarUInt up to 4,294,967,295 in its shortest form. Assumes nothing.
+-- A number of a scan, its site, tag or guard: a VarUInt up to 4,294,967,295 in its shortest form. Assumes nothing.
 use Rattle.std.specs.Prelude.{ℕ, List, Result, Ok, Err}
 use Rattle.ion.specs.Numbers.VarUInt.{read_var_uint}
 use Rattle.ion.specs.declared.number.NumberError.{NumberError}

@@ -1,5 +1,6 @@
--- Doubles and gaps: what each scan is beside the last kept scan of its tag, and the counts, over a list of scans. Assumes nothing.
-use Rattle.std.specs.Prelude.{ℕ, suc, ◌+◌, ◌*◌, ◌^◌, Bool, cond, List, [], ◌∷◌, eqb, ltb, length, get_or}
+-- Doubles and gaps: what each scan is beside the last kept scan of its post, and the counts, over a list of scans. A post is a
+-- site and a tag. Assumes nothing.
+use Rattle.std.specs.Prelude.{ℕ, suc, ◌+◌, ◌*◌, ◌^◌, Bool, cond, ◌&&◌, List, [], ◌∷◌, eqb, ltb, length, get_or}
 use Rattle.ion.specs.Pair.Count.{count_of}
 use Rattle.ion.specs.Pair.Pair.{no_stamp}
 use Rattle.ion.specs.Calls.Order.{size_of_difference}
@@ -9,12 +10,12 @@ use Rattle.scans.specs.declared.Counts.{Counts}
 use Rattle.scans.specs.declared.Kind.{Kind}
 use Rattle.scans.specs.declared.Kind.TheVariants.{Double, Kept, Gap, Backward}
 
--- ---- the last kept scans, in the order of their tags' first scans
+-- ---- the last kept scans, in the order of their posts' first scans
 
 abbrev pub same_post : Scan → Scan → Bool
-same_post x y = eqb x.tag y.tag
+same_post x y = eqb x.site y.site && eqb x.tag y.tag
 
--- the place of x's tag among them; past the last where it has none
+-- the place of x's post among them; past the last where it has none
 unfoldable pub place_of : Scan → List Scan → ℕ
 place_of x [] = 0
 place_of x (y ∷ l) = cond (same_post x y) 0 (suc (place_of x l))
@@ -38,9 +39,9 @@ kind_beside w g last n =
     (cond (ltb (last + seconds g) n) Gap Kept))
 
 abbrev pub no_scan : Scan
-no_scan = scan_of 0 0 no_stamp
+no_scan = scan_of 0 0 0 no_stamp
 
--- the first scan of its tag is kept
+-- the first scan of its post is kept
 unfoldable pub kind_of : ℕ → ℕ → List Scan → Scan → Kind
 kind_of w g l x =
     let i = place_of x l in

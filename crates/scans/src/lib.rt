@@ -3,15 +3,23 @@
 
 use ion::Timestamp;
 
-// A guard's scan of a tag.
+// How a file holds its scans: in the old layout without their sites.
+#[derive(Clone, Copy, Debug, PartialEq, Eq)]
+pub enum Layout {
+    Old,
+    New,
+}
+
+// A guard's scan of a tag at a site.
 #[derive(Clone, Copy)]
 pub struct Scan {
+    pub site: u32,
     pub tag: u32,
     pub guard: u32,
     pub stamp: Timestamp,
 }
 
-// What a scan is beside the last kept scan of its tag. A gap and a backward step are kept too.
+// What a scan is beside the last kept scan of its site and tag. A gap and a backward step are kept too.
 #[derive(Clone, Copy)]
 pub enum Kind {
     Double,

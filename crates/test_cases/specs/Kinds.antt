@@ -44,10 +44,10 @@ head_length kind.VarUInt = 9
 head_length kind.VarInt = 9
 head_length kind.Padded = 10
 head_length kind.TextRead = 18
-head_length kind.ScanRead = 27
-head_length kind.Scan = 26
-head_length kind.File = 3
-head_length kind.Report = 65
+head_length kind.ScanRead = 32
+head_length kind.Scan = 30
+head_length kind.File = 4
+head_length kind.Report = 81
 head_length kind.PaddedRead = 19
 
 -- whether a run of bytes ends it

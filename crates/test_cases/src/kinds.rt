@@ -75,7 +75,7 @@ impl Kind {
         ensures { result ≡ head_length self }
     {
         match self {
-            Kind::Build | Kind::Report => 65,
+            Kind::Build => 65,
             Kind::Check | Kind::Utc => 33,
             Kind::Order => 37,
             Kind::Text | Kind::Value | Kind::TextRead => 18,
@@ -83,9 +83,10 @@ impl Kind {
             Kind::Distance => 50,
             Kind::VarUInt | Kind::VarInt => 9,
             Kind::Padded => 10,
-            Kind::ScanRead => 27,
-            Kind::Scan => 26,
-            Kind::File => 3,
+            Kind::ScanRead => 32,
+            Kind::Scan => 30,
+            Kind::File => 4,
+            Kind::Report => 81,
         }
     }
 

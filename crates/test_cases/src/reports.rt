@@ -1,4 +1,4 @@
-// Records of a report: what is asked and lent, the answer with the words of the first two tags, and then the file.
+// Records of a report: what is asked and lent, the answer with the words of the first two posts, and then the file.
 use ion::refusal::number_in;
 use scans::Counts;
 use test_answers::{byte_at, half_at, word_at};
@@ -7,9 +7,9 @@ use test_answers::{byte_at, half_at, word_at};
 const BEFORE: u64 = 7;
 
 // How many words are lent at most, and how many the last kept scans have.
-const LENT: usize = 1024;
+const LENT: usize = 1040;
 
-const WORDS: usize = 768;
+const WORDS: usize = 1024;
 
 // What a refusal has where there must be counts.
 const NO_COUNTS: Counts = Counts {
@@ -22,7 +22,7 @@ const NO_COUNTS: Counts = Counts {
 
 // What the word at index `i` must be after a report.
 fn word_due(r: &[u8], i: usize) -> u64 {
-    if i < 6 {
+    if i < 8 {
         word_at(r, 16 + i * 8)
     } else if i < WORDS {
         0
@@ -53,7 +53,7 @@ fn counts_agree(c: Counts, r: &[u8]) -> bool {
 // Whether the report is the recorded one, and leaves the lent words so.
 pub(crate) fn report_agrees(r: &[u8]) -> bool {
     let lent = usize::from(u16::from_be_bytes([byte_at(r, 8), byte_at(r, 9)]));
-    let Some(file) = r.get(65..) else {
+    let Some(file) = r.get(81..) else {
         return false;
     };
     let mut room = [BEFORE; LENT];

@@ -83,9 +83,9 @@ pub(crate) fn scan_bytes_agree(r: &[u8]) -> bool {
     let scan = scan_at(r, 0);
     writes(
         &|buf| scan_binary::write_scan(buf, 0, scan),
-        byte_at(r, 24),
+        byte_at(r, 28),
         r,
-        26,
+        30,
     )
 }
 

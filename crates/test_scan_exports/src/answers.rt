@@ -8,20 +8,23 @@ use test_results::pair;
 
 pub(crate) fn store_scan(
     x: Result<(Scan, usize), Refusal>,
+    site: &mut u32,
     tag: &mut u32,
     guard: &mut u32,
     word: &mut u64,
     attoseconds: &mut u64,
     taken: &mut usize,
 ) -> u32
-    ensures { ScanIs x result tag.new guard.new word.new attoseconds.new taken.new }
+    ensures { ScanIs x result site.new tag.new guard.new word.new attoseconds.new taken.new }
 {
     let no_scan = Scan {
+        site: 0,
         tag: 0,
         guard: 0,
         stamp: pair(0, 0),
     };
     let (scan, n) = x.unwrap_or((no_scan, 0));
+    *site = scan.site;
     *tag = scan.tag;
     *guard = scan.guard;
     *word = scan.stamp.packed_fields;

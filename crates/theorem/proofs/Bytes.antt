@@ -1,5 +1,5 @@
 -- What the writers of an accepted timestamp's bytes do, and the readers with what they wrote. Assumes nothing.
-use mathlib.Core.Path.{◌≡◌, refl, sym, ◌∙◌}
+use mathlib.Core.Path.{◌≡◌, refl, sym, subst, ◌∙◌}
 use mathlib.Core.List.{List, ◌++◌}
 use Prim.Native.Nat.{ℕ}
 use lib.ListN.{length, take, drop}
@@ -17,8 +17,9 @@ use Rattle.timestamp.proofs.Accepts.{check_accepts}
 use Rattle.text_reader.proofs.ReadBack.{text_back}
 use Rattle.value_reader.proofs.Values as values
 use Rattle.scans.specs.Scan.{scan_bytes, scan_check, read_scan}
+use Rattle.scans.specs.declared.Layout.TheVariants.{New}
 use Rattle.scans.specs.declared.Scan.{Scan}
-use Rattle.scan_laws.proofs.Scans.{Stored, scan_back}
+use Rattle.scan_laws.proofs.Scans.{Stored, written_back}
 use Rattle.theorem.specs.TwoStamps.{Writes, AsWritten, ReadsBack, TextReadsBack, ScanReadsBack, EachScan}
 
 -- a writer whose check passes
@@ -43,10 +44,10 @@ module _ (s : Timestamp) (p : Accepted s) where
   pub text_reads_back : TextReadsBack s
   text_reads_back = as_written (check_accepts s p) (text_of s) (λ x n. read_text_of x ≡ Ok s) (text_back s p)
 
-  pub stored : EachScan s Stored
-  stored tag guard h k = record { tag = h; guard = k; stamp = p }
+  pub stored : EachScan s (Stored New)
+  stored x h = record { site = h.site; tag = h.tag; guard = h.guard; stamp = subst Accepted (sym h.stamp) p }
 
-module _ {x : Scan} (p : Stored x) where
+module _ {x : Scan} (p : Stored New x) where
   scan_passes : scan_check x ≡ Ok x.stamp
   unfolding scan_check
   scan_passes = check_accepts x.stamp p.stamp
@@ -56,4 +57,4 @@ module _ {x : Scan} (p : Stored x) where
 
   pub scan_reads_back : ScanReadsBack x
   scan_reads_back =
-      as_written scan_passes (scan_bytes x) (λ v n. (r : List ℕ) → read_scan (v ++ r) ≡ Ok (x, n)) (λ r. scan_back x r p)
+      as_written scan_passes (scan_bytes x) (λ v n. (r : List ℕ) → read_scan New (v ++ r) ≡ Ok (x, n)) (λ r. written_back x r p)

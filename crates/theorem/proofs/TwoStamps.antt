@@ -30,8 +30,8 @@ use Rattle.value_reader.proofs.Readings.{value_apart}
 use Rattle.padded_reader.proofs.PaddedValues.{form_read, form_apart, read_exact, writer_form, shortest_form}
 use Rattle.scans.specs.Scan.{scan_bytes}
 use Rattle.scans.specs.declared.Scan.{Scan}
-use Rattle.scan_laws.proofs.Scans.{Stored, scan_back, scans_apart}
-use Rattle.theorem.specs.TwoStamps.{utc_count, SignOf, Differ, ReadFromTexts, ReadFromForms, ShortestForm, BothOk, TwoStamps}
+use Rattle.scan_laws.proofs.Scans.{written_back, scans_apart}
+use Rattle.theorem.specs.TwoStamps.{utc_count, SignOf, Differ, IsScan, ReadFromTexts, ReadFromForms, ShortestForm, BothOk, TwoStamps}
 use Rattle.theorem.proofs.UtcCounts.{count_exact, order_sign}
 use Rattle.theorem.proofs.Bytes.{writes, reads_back, text_reads_back, stored, scan_writes, scan_reads_back}
 
@@ -40,9 +40,9 @@ both_by : {A B : Type 0} {r : Result A Refusal} {q : Result B Refusal} {x : A} {
     → r ≡ Ok x → q ≡ Ok y → P x y → BothOk r q P
 both_by P e f h = rw (e, f) h
 
-module _ {x y : Scan} (h : Stored x) (k : Stored y) where
-  scan_stamps : (q r : List ℕ) → scan_bytes x ++ q ≡ scan_bytes y ++ r → x.stamp ≡ y.stamp
-  scan_stamps q r e = ap (λ (z : Scan). z.stamp) (scans_apart x y h k q r e)
+module _ {s t : Timestamp} (p : Accepted s) (q : Accepted t) {x y : Scan} (h : IsScan s x) (k : IsScan t y) where
+  scan_stamps : (u v : List ℕ) → scan_bytes x ++ u ≡ scan_bytes y ++ v → s ≡ t
+  scan_stamps u v e = sym h.stamp ∙ ap (λ (z : Scan). z.stamp) (scans_apart x y (stored s p x h) (stored t q y k) u v e) ∙ k.stamp
 
 from_texts : (s : Timestamp) → Accepted s → ReadFromTexts s
 from_texts s p x = (text_exact s x, texts_read s x p)
@@ -106,16 +106,16 @@ module _ (a b : Timestamp) (p : Accepted a) (q : Accepted b) where
         forms_least = (form_least a p, form_least b q);
         text_back = (text_reads_back a p, text_reads_back b q);
         texts_exact = (from_texts a p, from_texts b q);
-        scan_back = ((λ t g h k. scan_reads_back (stored a p t g h k)), (λ t g h k. scan_reads_back (stored b q t g h k)));
+        scan_back = ((λ x h. scan_reads_back (stored a p x h)), (λ x h. scan_reads_back (stored b q x h)));
         same_by_pair = both_by _ (check_accepts a p) (check_accepts b q) (refl, refl, refl);
         same_by_value = λ d e. both_by _ (values.value_back a p d) (values.value_back b q e) (refl, refl, refl);
         same_by_form = λ x f y g d e. both_by _ (form_read a p x f d) (form_read b q y g e) (refl, refl, refl);
         same_by_text = both_by _ (text_back a p) (text_back b q) (refl, refl, refl);
-        same_by_scan = λ t g h k u v i j d e.
-            both_by _ (scan_back _ d (stored a p t g h k)) (scan_back _ e (stored b q u v i j)) (refl, refl, refl);
+        same_by_scan = λ x h y k d e.
+            both_by _ (written_back x d (stored a p x h)) (written_back y e (stored b q y k)) (rw (h.stamp, k.stamp) (refl, refl, refl));
         texts_written = (writes (check_accepts a p) (text_of a), writes (check_accepts b q) (text_of b));
         values_written = (writes (check_accepts a p) (value_of a), writes (check_accepts b q) (value_of b));
-        scans_written = ((λ t g h k. scan_writes (stored a p t g h k)), (λ t g h k. scan_writes (stored b q t g h k)));
+        scans_written = ((λ x h. scan_writes (stored a p x h)), (λ x h. scan_writes (stored b q x h)));
         texts_differ = λ d e. not_same a b d (text_inj a b p q e);
         texts_apart = λ d s h k. not_same a b d (texts_inj a b s p q h k);
         values_differ = λ d. bytes_differ d (value_apart a b p q);
@@ -123,8 +123,8 @@ module _ (a b : Timestamp) (p : Accepted a) (q : Accepted b) where
         forms_apart = λ d x f y g.
             let apart : (u v : List ℕ) → x ++ u ≡ y ++ v → a ≡ b = λ u v e. form_apart a b p q x y u v f g e in
             (bytes_differ d apart, neither_begins d apart);
-        scans_differ = λ d t g h k u v i j. bytes_differ d (scan_stamps (stored a p t g h k) (stored b q u v i j));
-        no_scan_beginning = λ d t g h k u v i j. neither_begins d (scan_stamps (stored a p t g h k) (stored b q u v i j));
+        scans_differ = λ d x h y k. bytes_differ d (scan_stamps p q h k);
+        no_scan_beginning = λ d x h y k. neither_begins d (scan_stamps p q h k);
       }
 
 -- for every two timestamps that the packed check accepts, whatever their precisions and offsets

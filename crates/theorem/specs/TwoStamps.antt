@@ -22,7 +22,8 @@ use Rattle.ion.specs.declared.Fields.{Fields}
 use Rattle.ion.specs.declared.refusal.Refusal.{Refusal}
 use Rattle.text_reader.specs.Texts.{TextFor}
 use Rattle.scans.specs.Number.{largest}
-use Rattle.scans.specs.Scan.{scan_of, scan_bytes, scan_check, read_scan}
+use Rattle.scans.specs.Scan.{scan_bytes, scan_check, read_scan}
+use Rattle.scans.specs.declared.Layout.TheVariants.{New}
 use Rattle.scans.specs.declared.Scan.{Scan}
 
 -- the fields, with the first value of each that the precision does not have
@@ -77,11 +78,18 @@ TextReadsBack s = AsWritten (check_of s) (text_of s) (λ x n. read_text_of x ≡
 
 -- what the scan writer wrote is read back with any bytes or none after it: the scan, and as many taken as were written
 abbrev pub ScanReadsBack : Scan → Type 0
-ScanReadsBack x = AsWritten (scan_check x) (scan_bytes x) (λ v n. (r : List ℕ) → read_scan (v ++ r) ≡ Ok (x, n))
+ScanReadsBack x = AsWritten (scan_check x) (scan_bytes x) (λ v n. (r : List ℕ) → read_scan New (v ++ r) ≡ Ok (x, n))
 
--- P holds of the scans of the timestamp s, with any tag and any guard up to 4,294,967,295
+-- x is a scan of the timestamp s, with any site, tag and guard up to 4,294,967,295
+pub record IsScan (s : Timestamp) (x : Scan) : Type 0 where
+  pub site : x.site ≤ largest
+  pub tag : x.tag ≤ largest
+  pub guard : x.guard ≤ largest
+  pub stamp : x.stamp ≡ s
+
+-- P holds of each
 abbrev pub EachScan : Timestamp → (Scan → Type 0) → Type 0
-EachScan s P = (tag guard : ℕ) → tag ≤ largest → guard ≤ largest → P (scan_of tag guard s)
+EachScan s P = (x : Scan) → IsScan s x → P x
 
 -- P holds of any scan of a and any scan of b
 abbrev pub EachTwo : Timestamp → Timestamp → (Scan → Scan → Type 0) → Type 0
@@ -138,7 +146,7 @@ pub record TwoStamps (a b : Timestamp) : Type 0 where
   -- through the text and back, and from no text but its own
   pub text_back : TextReadsBack a × TextReadsBack b
   pub texts_exact : ReadFromTexts a × ReadFromTexts b
-  -- through a scan and back, with any tag and any guard, and whatever bytes after it
+  -- through a scan and back, with any site, tag and guard, and whatever bytes after it
   pub scan_back : EachScan a ScanReadsBack × EachScan b ScanReadsBack
   -- and then the same answers
   pub same_by_pair : BothOk (check_of a) (check_of b) (λ x y. SameAnswers x y a b)
@@ -147,7 +155,7 @@ pub record TwoStamps (a b : Timestamp) : Type 0 where
       → BothOk (read_padded_value (x ++ d)) (read_padded_value (y ++ e)) (λ u v. SameAnswers u.0 v.0 a b)))
   pub same_by_text : BothOk (read_text_of (text_of a)) (read_text_of (text_of b)) (λ x y. SameAnswers x y a b)
   pub same_by_scan : EachTwo a b (λ x y. (d e : List ℕ)
-      → BothOk (read_scan (scan_bytes x ++ d)) (read_scan (scan_bytes y ++ e)) (λ u v. SameAnswers u.0.stamp v.0.stamp a b))
+      → BothOk (read_scan New (scan_bytes x ++ d)) (read_scan New (scan_bytes y ++ e)) (λ u v. SameAnswers u.0.stamp v.0.stamp a b))
   -- text, value and scan are what the writers, given room for them, write
   pub texts_written : Writes (check_of a) (text_of a) × Writes (check_of b) (text_of b)
   pub values_written : Writes (check_of a) (value_of a) × Writes (check_of b) (value_of b)

@@ -46,8 +46,8 @@ number_of refusal.Number = 19
 number_of refusal.Words = 20
 -- W above 86,400 seconds
 number_of refusal.Window = 21
--- a 257th tag
-number_of refusal.Tags = 22
+-- a 257th post, a site and a tag
+number_of refusal.Posts = 22
 
 -- of an answer
 abbrev pub number_in : {A : Type 0} → Result A Refusal → ℕ

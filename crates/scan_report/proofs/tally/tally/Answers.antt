@@ -1,20 +1,24 @@
 -- `tally` meets its contract.
-use Rattle.std.proofs.Common.{◌<◌, ◌^◌, length, rules, arith}
+use Rattle.std.proofs.Common.{◌≡◌, ◌<◌, ◌^◌, length, rules, arith}
+use Rattle.scans.specs.File.{scans_in, contents_of}
 use Rattle.scan_report.proofs.Tallying.{start, ended, stop_full, next_by, bounded}
 use Rattle.scan_report.proofs.tally.tally.Goals as goal
 
 pub loop-scan-init : goal.loop-scan-init
 loop-scan-init c =
-    let t = start c.args.w c.args.g c.args.s.now c.args.last.now c.requires in
-    record { tallying = search (rules, t); can = tt; ends = tt }
+    let i = c.into_iter-scan-iterator.result in
+    let first : scans_in i.layout i.left.now ≡ contents_of c.args.s.now =
+    rw c.into_iter-scan-iterator.ensures.into_iter_gives c.new-scan-items.ensures in
+    record { tallying = start c.args.w c.args.g c.args.s.now _ c.args.last.now first c.requires; can = tt; ends = tt }
 
 pub returns-in_err-x : goal.returns-in_err-x
 returns-in_err-x c =
     let e = (ended c.loop-scan.invariant.tallying (rw c.in_err-x.was at c.in-Some.ensures.steps).0).0 in search (rules, e)
 
-pub returns-then-place-ge-TAG_COUNT : goal.returns-then-place-ge-TAG_COUNT
-returns-then-place-ge-TAG_COUNT c =
-    stop_full c.loop-scan.invariant.tallying (rw c.in_ok-x.was at c.in-Some.ensures.steps) c.place-place.ensures c.if-place-ge-TAG_COUNT.true
+pub returns-then-place-ge-POST_COUNT : goal.returns-then-place-ge-POST_COUNT
+returns-then-place-ge-POST_COUNT c =
+    stop_full c.loop-scan.invariant.tallying (rw c.in_ok-x.was at c.in-Some.ensures.steps) c.place-place.ensures
+    c.if-place-ge-POST_COUNT.true
 
 pub take_scan-kind-requires-clause-accepted : goal.take_scan-kind-requires-clause-accepted
 take_scan-kind-requires-clause-accepted c = let b = rw c.in_ok-x.was at c.in-Some.ensures.steps in b.accepted
@@ -30,7 +34,7 @@ loop-scan-preserved c =
     record {
       tallying =
           next_by c.loop-scan.invariant.tallying (rw c.in_ok-x.was at c.in-Some.ensures.steps) c.place-place.ensures
-          c.if-place-ge-TAG_COUNT.false c.take_scan-kind.ensures.kind c.counted-counts.ensures c.take_scan-kind.ensures.last;
+          c.if-place-ge-POST_COUNT.false c.take_scan-kind.ensures.kind c.counted-counts.ensures c.take_scan-kind.ensures.last;
       can = tt;
       ends = tt;
     }

@@ -1,13 +1,14 @@
 -- `LastKept::place` meets its contract.
-use Rattle.std.proofs.Common.{◌∙◌, rules, tests}
+use Rattle.std.proofs.Common.{sym, ◌∙◌, rules, tests}
 use Rattle.std.proofs.lemmas.Iterator.{YieldsList-from_slice}
 use Rattle.std.proofs.lemmas.Iterator.Search.{position_from_yields_List}
 use Rattle.scans.specs.Tally.{same_post}
 use Rattle.scan_report.proofs.Kept.{kept_length, place_found, place_by}
 use Rattle.scan_report.proofs.last_kept.LastKept.place.Goals as goal
 
-pub returns-then-self-hint : goal.returns-then-self-hint
-returns-then-self-hint c = place_found c.self.invariant c.self.view_is c.args.x _ _ c.if-hint-self.true c.if-self-hint.true
+pub returns-then-is_same_post : goal.returns-then-is_same_post
+returns-then-is_same_post c = place_found c.self.invariant c.self.view_is c.args.x _ _ c.if-hint-self.true
+    (sym c.is_same_post.ensures ∙ c.if-is_same_post.true)
 
 pub returns : goal.returns
 returns c =

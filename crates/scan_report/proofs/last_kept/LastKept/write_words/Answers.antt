@@ -1,7 +1,8 @@
 -- `LastKept::write_words` meets its contract.
-use Rattle.std.proofs.Common.{◌-◌, List, length, length-drop, get_or, drop, ap, arith}
+use Rattle.std.proofs.Common.{◌∙◌, ◌-◌, List, length, length-drop, get_or, drop, ap, arith}
 use Rattle.std.proofs.Math.Seq.{length-take-le}
 use Rattle.scans.specs.Tally.{no_scan}
+use Rattle.scans.specs.Report.{words_of}
 use Rattle.scans.specs.declared.Scan.{Scan}
 use Rattle.scan_report.proofs.Words.{begun_none, begun_more, begun_all}
 use Rattle.scan_report.proofs.Kept.{kept_length}
@@ -17,7 +18,9 @@ loop-x-preserved c =
     record {
       begun =
           begun_more c.args.self.now c.loop-x.x-index c.loop-x.at _ c.loop-x.invariant.begun c.loop-x.invariant.place (omega arith)
-          (omega arith) (ap (λ (l : List Scan). get_or l c.loop-x.x-index no_scan) c.self.view_is);
+          (omega arith) (omega arith)
+          (c.copy_from_slice.ensures.after
+          ∙ ap (λ (l : List Scan). words_of (get_or l c.loop-x.x-index no_scan)) c.self.view_is);
       place = omega arith;
     }
 
@@ -28,6 +31,6 @@ returns c =
     let same = ap length c.self.view_is in
     let at = c.loop-x.at in
     let rest = drop at c.loop-x.words in
-    let size = length-take-le (768 - at) rest (omega (arith, length-drop at c.loop-x.words)) in
-    begun_all c.args.self.now c.loop-x.x-index at _ c.loop-x.invariant.begun (omega arith) (omega arith) (omega arith)
+    let size = length-take-le (1024 - at) rest (omega (arith, length-drop at c.loop-x.words)) in
+    begun_all c.args.self.now c.loop-x.x-index at _ c.loop-x.invariant.begun (omega arith) (omega arith) (omega arith) c.requires
     (c.fill.ensures.after (λ y e. e)) size
