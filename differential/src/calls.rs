@@ -173,12 +173,33 @@ pub struct Read {
     pub taken: usize,
 }
 
-/// A guard's scan of a tag.
+/// How the scans of a file are laid out.
+#[derive(Clone, Copy, PartialEq, Eq, PartialOrd, Ord, Debug)]
+pub enum Layout {
+    /// Tag, guard and value, from the file's beginning on.
+    Old,
+    /// Site, tag, guard and value, after a start.
+    New,
+}
+
+impl Layout {
+    pub const ALL: [Layout; 2] = [Layout::Old, Layout::New];
+}
+
+/// A guard's scan of a site's tag. Scans of the old layout have site 0.
 #[derive(Clone, Copy, PartialEq, Eq, Debug, Default)]
 pub struct Scan {
+    pub site: u32,
     pub tag: u32,
     pub guard: u32,
     pub pair: Pair,
+}
+
+impl Scan {
+    /// The site and the tag, by which reports go.
+    pub fn post(&self) -> (u32, u32) {
+        (self.site, self.tag)
+    }
 }
 
 /// A scan and how many bytes it took: 0 in every part beside a refusal.
@@ -196,7 +217,7 @@ pub struct FileRead {
     pub scans: usize,
 }
 
-/// What scans of a file are beside the last kept one of their tag.
+/// What scans of a file are beside the last kept one of their post.
 #[derive(Clone, Copy, PartialEq, Eq, Debug, Default)]
 pub struct Counts {
     pub scans: u64,
@@ -271,13 +292,16 @@ pub trait Library {
     /// The timestamp whose text the whole input is.
     fn read_text(&self, input: &[u8]) -> Built;
 
-    /// The scan with which the input begins.
-    fn read_scan(&self, input: &[u8]) -> ScanRead;
-    /// Writes a scan from a place of the buffer on.
+    fn layout(&self, file: &[u8]) -> Layout;
+    /// The scan with which the input begins, as a file of that layout has it after its start.
+    fn read_scan(&self, input: &[u8], layout: Layout) -> ScanRead;
+    /// Writes the start of a new file from a place of the buffer on.
+    fn write_start(&self, buffer: &mut [u8], at: usize) -> Written;
+    /// Writes a scan of the new layout from a place of the buffer on.
     fn write_scan(&self, scan: Scan, buffer: &mut [u8], at: usize) -> Written;
     /// Reads a whole file of scans.
     fn check_file(&self, file: &[u8]) -> FileRead;
-    /// Counts doubles within `w` seconds and gaps of more than `g`, and leaves the tags' last kept scans in `words`.
+    /// Counts doubles within `w` seconds and gaps of more than `g`, and leaves the posts' last kept scans in `words`.
     fn report_file(&self, file: &[u8], w: u32, g: u32, words: &mut [u64]) -> Report;
 
     fn write_var_uint(&self, value: u64, buffer: &mut [u8]) -> Option<Written>;

@@ -10,8 +10,8 @@ pub const VALUE_EDGES: [u8; 15] =
 /// A text's marks, digits, what stands beside them in ASCII, and bytes that no text has.
 const TEXT_EDGES: [u8; 22] = *b"01569/:;-+,.TZtz \n\0\x7F\x80\xFF";
 
-/// Bytes at the edges of a tag or a guard, and of a value's first byte.
-const SCAN_EDGES: [u8; 12] = [0x00, 0x01, 0x0F, 0x10, 0x5F, 0x60, 0x6E, 0x6F, 0x7F, 0x80, 0x82, 0xFF];
+/// Bytes at the edges of a scan's number, of a file's start, and of a value's first byte.
+const SCAN_EDGES: [u8; 14] = [0x00, 0x01, 0x0F, 0x10, 0x5F, 0x60, 0x6E, 0x6F, 0x7F, 0x80, 0x81, 0x82, 0x83, 0xFF];
 
 pub fn value(random: &mut Random, good: &[u8]) -> Vec<u8> {
     let (mut bytes, by) = damaged(random, good, &VALUE_EDGES);

@@ -62,7 +62,7 @@ pub fn read(input: &[u8]) -> Read {
     })
 }
 
-/// The value's form by the request, over the Rust's builder.
+/// The value's form by the scope, over the Rust's builder.
 pub fn read_padded(input: &[u8]) -> Expected<Read> {
     match padded_reader::fields_of(input) {
         Ok((build, taken)) => Ok(padded_reader::made(built(oracle::build(&build))?, taken)),
@@ -70,7 +70,7 @@ pub fn read_padded(input: &[u8]) -> Expected<Read> {
     }
 }
 
-/// The text's form by the request, over the Rust's builder.
+/// The text's form by the scope, over the Rust's builder.
 pub fn read_text(input: &[u8]) -> Expected<Built> {
     match text_reader::fields_of(input) {
         Ok(build) => built(oracle::build(&build)),
@@ -78,11 +78,11 @@ pub fn read_text(input: &[u8]) -> Expected<Built> {
     }
 }
 
-/// The numbers by the request, the value as above.
-pub fn read_scan(input: &[u8]) -> ScanRead {
-    scans::read(input, read)
+/// The numbers by the scope, the value as above.
+pub fn read_scan(input: &[u8], layout: Layout) -> ScanRead {
+    scans::read(input, layout, read)
 }
 
 pub fn contents(file: &[u8]) -> Contents {
-    scans::contents(file, read_scan)
+    scans::contents(file, scans::layout(file), read_scan)
 }

@@ -1,6 +1,6 @@
 //! Cases drawn at random, with the edges more frequent than chance would make them.
 
-use crate::calls::{Build, Fraction, Offset, Pair, Scan, Stage};
+use crate::calls::{Build, Fraction, Layout, Offset, Pair, Scan, Stage};
 use crate::forms::{Form, Number, EXPONENT};
 use crate::model::{self, calendar, fields};
 use crate::oracle::{self, Answer};
@@ -283,10 +283,10 @@ pub fn second_at(count: i128, digits: u64, offset: Option<i32>) -> Option<Pair> 
     })
 }
 
-/// The first and the last tag or guard of each length, from one byte to five.
+/// The first and the last site, tag or guard of each length, from one byte to five.
 pub const SCAN_NUMBERS: [u32; 10] = [0, 127, 128, 16383, 16384, 2097151, 2097152, 268435455, 268435456, 4294967295];
 
-/// A tag or a guard.
+/// A site, a tag or a guard.
 fn scan_number(random: &mut Random) -> u32 {
     match random.below(4) {
         0 => random.pick(&SCAN_NUMBERS),
@@ -295,7 +295,7 @@ fn scan_number(random: &mut Random) -> u32 {
 }
 
 pub fn scan(random: &mut Random) -> Scan {
-    Scan { tag: scan_number(random), guard: scan_number(random), pair: accepted(random) }
+    Scan { site: scan_number(random), tag: scan_number(random), guard: scan_number(random), pair: accepted(random) }
 }
 
 /// W and G for a report.
@@ -313,19 +313,30 @@ pub fn window_and_gap(random: &mut Random) -> (u32, u32) {
     (w, g)
 }
 
-/// Up to 60 scans of one site: mostly of few tags, each some time from one before it, and mostly from one of its tag.
-pub fn site(random: &mut Random, w: u32, g: u32) -> Vec<Scan> {
+/// Up to so many sites and tags, of few numbers. The old layout has one site.
+fn posts(random: &mut Random, layout: Layout, most: u64) -> Vec<(u32, u32)> {
+    let some = if random.one_in(2) { most } else { 3 };
+    let numbers: Vec<u32> = (0..=random.below(some)).map(|_| scan_number(random)).collect();
+    let site = |random: &mut Random| match layout {
+        Layout::Old => 0,
+        Layout::New => random.pick(&numbers),
+    };
+    (0..=random.below(most)).map(|_| (site(random), random.pick(&numbers))).collect()
+}
+
+/// Up to 60 scans of a round: mostly of few posts, each some time from one before it, and mostly from one of its post.
+pub fn round(random: &mut Random, layout: Layout, w: u32, g: u32) -> Vec<Scan> {
     let most = if random.one_in(10) { 60 } else { 4 };
-    let tags: Vec<u32> = (0..=random.below(most)).map(|_| scan_number(random)).collect();
+    let posts = posts(random, layout, most);
     let most = if random.one_in(4) { 60 } else { 8 };
     let mut scans: Vec<Scan> = Vec::new();
     for _ in 0..=random.below(most) {
-        let tag = random.pick(&tags);
-        let pair = match scans.iter().rev().find(|scan| scan.tag == tag || random.one_in(8)) {
+        let (site, tag) = random.pick(&posts);
+        let pair = match scans.iter().rev().find(|scan| scan.post() == (site, tag) || random.one_in(8)) {
             Some(before) => later(random, before.pair, w, g),
             None => accepted(random),
         };
-        scans.push(Scan { tag, guard: scan_number(random), pair });
+        scans.push(Scan { site, tag, guard: scan_number(random), pair });
     }
     scans
 }

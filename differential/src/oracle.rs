@@ -4,11 +4,12 @@
 use crate::binary::timestamp::TimestampBinaryEncoder;
 use crate::binary::var_int::VarInt;
 use crate::binary::var_uint::VarUInt;
-use crate::calls::{Build, DateTime, Fields, Fraction, Offset, Pair, Scan, Stage};
+use crate::calls::{Build, DateTime, Fields, Fraction, Layout, Offset, Pair, Scan, Stage};
 use crate::decimal::{Coefficient, Sign};
 use crate::ion_data::{IonDataOrd, IonEq};
 use crate::refusals::number_of_text;
 use crate::result::{IonError, IonResult};
+use crate::scans::START;
 use crate::text::text_formatter;
 use crate::types::timestamp::{opened, HasDay, HasSeconds, SupportsOffset, TimestampBuilder};
 use crate::{Decimal, Timestamp};
@@ -243,23 +244,44 @@ pub fn value(pair: Pair) -> Answer<Vec<u8>> {
     on_one(pair, |stamp| written(|bytes| bytes.encode_timestamp_value(stamp)))
 }
 
-/// The Rust's writers one after another: two VarUInts and a value.
-pub fn scan(scan: Scan) -> Answer<Vec<u8>> {
+/// The Rust's writers one after another: VarUInts, of which the old layout has none for the site, and a value.
+pub fn scan(scan: Scan, layout: Layout) -> Answer<Vec<u8>> {
+    let numbers = [scan.site, scan.tag, scan.guard];
+    let numbers = match layout {
+        Layout::Old => &numbers[1..],
+        Layout::New => &numbers[..],
+    };
     on_one(scan.pair, |stamp| {
         written(|bytes| {
-            let numbers = VarUInt::write_u64(bytes, scan.tag as u64)? + VarUInt::write_u64(bytes, scan.guard as u64)?;
-            Ok(numbers + bytes.encode_timestamp_value(stamp)?)
+            let mut count = 0;
+            for number in numbers {
+                count += VarUInt::write_u64(bytes, *number as u64)?;
+            }
+            Ok(count + bytes.encode_timestamp_value(stamp)?)
         })
     })
 }
 
-/// Accepted scans one after another.
-pub fn file(scans: &[Scan]) -> Vec<u8> {
-    let bytes = |each: &Scan| match scan(*each) {
+/// Accepted scans one after another, as a file of that layout has them after its start.
+pub fn scans(scans: &[Scan], layout: Layout) -> Vec<u8> {
+    let bytes = |each: &Scan| match scan(*each, layout) {
         Answer::Accepted(bytes) => bytes,
         other => panic!("{each:?}: {other:?}"),
     };
     scans.iter().flat_map(bytes).collect()
+}
+
+/// A file of accepted scans, in the only layout that is written.
+pub fn file(scans: &[Scan]) -> Vec<u8> {
+    [&START[..], &self::scans(scans, Layout::New)].concat()
+}
+
+/// A file that may be an old one, in which nothing stands for the sites.
+pub fn file_in(layout: Layout, scans: &[Scan]) -> Vec<u8> {
+    match layout {
+        Layout::Old => self::scans(scans, Layout::Old),
+        Layout::New => file(scans),
+    }
 }
 
 // ---- two timestamps

@@ -63,16 +63,21 @@ extern "C" {
         taken: &mut usize,
     ) -> u32;
     fn timestamp_read_text(input: *const u8, length: usize, word: &mut u64, attoseconds: &mut u64) -> u32;
+    fn file_layout(file: *const u8, length: usize) -> u32;
     fn scan_read(
         input: *const u8,
         length: usize,
+        layout: u32,
+        site: &mut u32,
         tag: &mut u32,
         guard: &mut u32,
         word: &mut u64,
         attoseconds: &mut u64,
         taken: &mut usize,
     ) -> u32;
+    fn start_write(buffer: *mut u8, length: usize, at: usize, written: &mut usize) -> u32;
     fn scan_write(
+        site: u32,
         tag: u32,
         guard: u32,
         word: u64,
@@ -314,18 +319,40 @@ impl Library for Ours {
         built(|word, attoseconds| unsafe { timestamp_read_text(input.as_ptr(), input.len(), word, attoseconds) })
     }
 
-    fn read_scan(&self, input: &[u8]) -> ScanRead {
-        let (mut tag, mut guard, mut taken) = (u32::MAX, u32::MAX, usize::MAX);
+    fn layout(&self, file: &[u8]) -> Layout {
+        match unsafe { file_layout(file.as_ptr(), file.len()) } {
+            0 => Layout::Old,
+            1 => Layout::New,
+            other => panic!("a layout is {other}"),
+        }
+    }
+
+    fn read_scan(&self, input: &[u8], layout: Layout) -> ScanRead {
+        let (mut site, mut tag, mut guard, mut taken) = (u32::MAX, u32::MAX, u32::MAX, usize::MAX);
         let Built { number, pair } = built(|word, attoseconds| unsafe {
-            scan_read(input.as_ptr(), input.len(), &mut tag, &mut guard, word, attoseconds, &mut taken)
+            scan_read(
+                input.as_ptr(),
+                input.len(),
+                layout as u32,
+                &mut site,
+                &mut tag,
+                &mut guard,
+                word,
+                attoseconds,
+                &mut taken,
+            )
         });
-        ScanRead { number, scan: Scan { tag, guard, pair }, taken }
+        ScanRead { number, scan: Scan { site, tag, guard, pair }, taken }
+    }
+
+    fn write_start(&self, buffer: &mut [u8], at: usize) -> Written {
+        written(buffer, |start, length, written| unsafe { start_write(start, length, at, written) })
     }
 
     fn write_scan(&self, scan: Scan, buffer: &mut [u8], at: usize) -> Written {
-        let Scan { tag, guard, pair } = scan;
+        let Scan { site, tag, guard, pair } = scan;
         written(buffer, |start, length, written| unsafe {
-            scan_write(tag, guard, pair.word, pair.attoseconds, start, length, at, written)
+            scan_write(site, tag, guard, pair.word, pair.attoseconds, start, length, at, written)
         })
     }
 

@@ -1,6 +1,6 @@
-//! The reader of a value in every form that the Ion specification allows, written from the words of its request and from
-//! the specification's section "6: Timestamp". ion-rust's is not at hand, so the form is told here, and a builder says
-//! what the fields of a form make.
+//! The reader of a value in every form that the Ion specification allows, written from the scope's words and from the
+//! specification's section "6: Timestamp". ion-rust's is not at hand, so the form is told here, and a builder says what
+//! the fields of a form make.
 
 use crate::calls::{Build, Built, DateTime, Fraction, Offset, Pair, Read, Stage};
 use crate::model::calendar::{is_day, shifted};

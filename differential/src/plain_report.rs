@@ -1,22 +1,29 @@
-//! The report over a file of scans as a user of ion-rust would write it by hand today: tag and guard by hand, the value by
-//! a reader, ion-rust's timestamps and their order, a hash map with the last kept one of each tag, and what ion-rust does
-//! not have, the time between two timestamps, from their fields. It is what the library's report is timed against.
+//! The report over a file of scans as a user of ion-rust would write it by hand today: site, tag and guard by hand, the
+//! value by a reader, ion-rust's timestamps and their order, a hash map with the last kept one of each site and tag, and
+//! what ion-rust does not have, the time between two timestamps, from their fields. It is what the library's report is
+//! timed against.
 
 use crate::calls::{Counts, Read};
 use crate::scans;
 use crate::Timestamp;
 use std::collections::HashMap;
 
-/// Counts, and the last kept timestamp of each tag in the order of the tags' first scans.
+/// A site and a tag.
+type Post = (u32, u32);
+
+/// Counts, and the last kept timestamp of each post in the order of the posts' first scans.
 pub struct PlainReport {
     pub counts: Counts,
-    pub last: Vec<(u32, Timestamp)>,
+    pub last: Vec<(Post, Timestamp)>,
 }
 
 impl PlainReport {
-    /// The same as a report's words, three for each tag.
+    /// The same as a report's words, four for each post.
     pub fn words(&self) -> Vec<u64> {
-        let words = |(tag, stamp): &(u32, Timestamp)| [*tag as u64, stamp.to_bits().0, stamp.to_bits().1];
+        let words = |((site, tag), stamp): &(Post, Timestamp)| {
+            let (word, attoseconds) = stamp.to_bits();
+            [*site as u64, *tag as u64, word, attoseconds]
+        };
         self.last.iter().flat_map(words).collect()
     }
 }
@@ -24,22 +31,23 @@ impl PlainReport {
 /// The report over a file that reads to its end. `value_of` reads the value with which bytes begin.
 pub fn report(file: &[u8], w: u32, g: u32, value_of: impl Fn(&[u8]) -> Read) -> Option<PlainReport> {
     let mut counts = Counts::default();
-    let mut tags = Vec::new();
-    let mut last: HashMap<u32, Timestamp> = HashMap::new();
-    let mut rest = file;
+    let mut posts = Vec::new();
+    let mut last: HashMap<Post, Timestamp> = HashMap::new();
+    let layout = scans::layout(file);
+    let mut rest = &file[scans::start_of(layout)..];
     while !rest.is_empty() {
-        let read = scans::read(rest, &value_of);
+        let read = scans::read(rest, layout, &value_of);
         if read.number != 0 {
             return None;
         }
         rest = &rest[read.taken..];
-        let (tag, pair) = (read.scan.tag, read.scan.pair);
+        let (post, pair) = (read.scan.post(), read.scan.pair);
         let stamp = Timestamp::try_from_bits(pair.word, pair.attoseconds).ok()?;
         counts.scans += 1;
-        let Some(kept) = last.get_mut(&tag) else {
+        let Some(kept) = last.get_mut(&post) else {
             counts.kept += 1;
-            tags.push(tag);
-            last.insert(tag, stamp);
+            posts.push(post);
+            last.insert(post, stamp);
             continue;
         };
         let backward = stamp < *kept;
@@ -56,7 +64,7 @@ pub fn report(file: &[u8], w: u32, g: u32, value_of: impl Fn(&[u8]) -> Read) -> 
         }
         *kept = stamp;
     }
-    let last = tags.into_iter().filter_map(|tag| last.remove_entry(&tag)).collect();
+    let last = posts.into_iter().filter_map(|post| last.remove_entry(&post)).collect();
     Some(PlainReport { counts, last })
 }
 

@@ -20,7 +20,7 @@ pub const FORM: u32 = 18;
 pub const NUMBER: u32 = 19;
 pub const WORDS: u32 = 20;
 pub const WINDOW: u32 = 21;
-pub const TAGS: u32 = 22;
+pub const POSTS: u32 = 22;
 
 /// How each error text begins, and its number.
 const TEXTS: [(&str, u32); 11] = [

@@ -1,20 +1,22 @@
-//! The report over a file of scans, written from the words of its request: over the scans that a reader finds, and the
-//! scope's count of attoseconds.
+//! The report over a file of scans, written from the scope's words: over the scans that a reader finds, and the scope's
+//! count of attoseconds. Scans are told apart by their posts, a site and a tag each.
 
 use crate::calls::{Counts, Report, Scan};
 use crate::model;
 use crate::model::fields::SECOND;
-use crate::refusals::{TAGS, WINDOW, WORDS};
+use crate::refusals::{POSTS, WINDOW, WORDS};
 use crate::scans::Contents;
 
-/// How many words a report needs: three for each tag.
-pub const WORD_COUNT: usize = 3 * TAG_COUNT;
-/// How many tags a report has room for.
-pub const TAG_COUNT: usize = 256;
+/// How many words a report needs.
+pub const WORD_COUNT: usize = POST_WORDS * POST_COUNT;
+/// How many posts a report has room for.
+pub const POST_COUNT: usize = 256;
+/// The words of a post: site and tag, and the pair of its last kept scan.
+pub const POST_WORDS: usize = 4;
 /// The largest W.
 pub const MAX_WINDOW: u32 = 86_400;
 
-/// What scans count, and the last kept one of each tag in the order of the tags' first scans.
+/// What scans count, and the last kept one of each post in the order of the posts' first scans.
 #[derive(Default)]
 struct Tally {
     counts: Counts,
@@ -26,8 +28,8 @@ pub fn answer(w: u32, g: u32, words: &mut [u64], contents: impl FnOnce() -> Cont
     match accepted(w, g, words.len(), contents) {
         Ok(tally) => {
             words[..WORD_COUNT].fill(0);
-            for (place, last) in words.chunks_exact_mut(3).zip(&tally.last) {
-                place.copy_from_slice(&[last.tag as u64, last.pair.word, last.pair.attoseconds]);
+            for (place, last) in words.chunks_exact_mut(POST_WORDS).zip(&tally.last) {
+                place.copy_from_slice(&[last.site as u64, last.tag as u64, last.pair.word, last.pair.attoseconds]);
             }
             Report { number: 0, counts: tally.counts }
         }
@@ -57,9 +59,9 @@ fn tally(scans: &[Scan], w: u32, g: u32) -> Result<Tally, u32> {
     let Tally { mut counts, mut last } = Tally::default();
     for scan in scans {
         counts.scans += 1;
-        let Some(kept) = last.iter_mut().find(|kept: &&mut Scan| kept.tag == scan.tag) else {
-            if last.len() == TAG_COUNT {
-                return Err(TAGS);
+        let Some(kept) = last.iter_mut().find(|kept: &&mut Scan| kept.post() == scan.post()) else {
+            if last.len() == POST_COUNT {
+                return Err(POSTS);
             }
             counts.kept += 1;
             last.push(*scan);

@@ -1,5 +1,5 @@
-//! The reader of a timestamp's text, written from the words of its request. ion-rust's is not at hand, so the form is
-//! told here, and a builder says what the fields of a form make.
+//! The reader of a timestamp's text, written from the scope's words. ion-rust's is not at hand, so the form is told here,
+//! and a builder says what the fields of a form make.
 
 use crate::calls::{Build, Built, Fraction, Offset, Pair, Stage};
 use crate::refusals::FORM;

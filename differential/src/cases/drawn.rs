@@ -1,7 +1,7 @@
 //! Sections drawn at random from a seed.
 
 use super::{Cases, Options, Section};
-use crate::calls::{Build, Pair, Scan};
+use crate::calls::{Build, Layout, Pair, Scan};
 use crate::damage;
 use crate::generate;
 use crate::model::fields;
@@ -136,24 +136,26 @@ fn texts_of_numbers(cases: &mut impl Cases, random: &mut Random) {
 }
 
 fn scans(cases: &mut impl Cases, random: &mut Random) {
-    let mut bytes = oracle::file(&[generate::scan(random)]);
+    let layout = random.pick(&Layout::ALL);
+    let mut bytes = oracle::scans(&[generate::scan(random)], layout);
     let damaged = damage::scans(random, &bytes);
-    cases.read_scan(&damaged);
-    cases.read_scan(&damage::scans(random, &damaged));
+    cases.read_scan(&damaged, layout);
+    cases.read_scan(&damage::scans(random, &damaged), layout);
     bytes.extend((0..random.below(4)).map(|_| random.bits() as u8));
-    cases.read_scan(&bytes);
+    cases.read_scan(&bytes, layout);
 }
 
 fn scans_written(cases: &mut impl Cases, random: &mut Random) {
     let scan = generate::scan(random);
     cases.write_scan(scan);
     cases.write_scan(Scan { pair: generate::changed_pair(random, scan.pair), ..scan });
+    cases.write_start(random.below(12) as usize, random.below(12) as usize);
 }
 
 /// A file of up to 20 scans: whole, cut anywhere, damaged once and twice.
 fn files(cases: &mut impl Cases, random: &mut Random) {
     let scans: Vec<Scan> = (0..random.below(21)).map(|_| generate::scan(random)).collect();
-    let file = oracle::file(&scans);
+    let file = oracle::file_in(random.pick(&Layout::ALL), &scans);
     cases.file(&file);
     cases.file(&file[..random.below(file.len() as u64 + 1) as usize]);
     let damaged = damage::scans(random, &file);

@@ -9,7 +9,7 @@ mod reports;
 mod scans;
 mod texts;
 
-use crate::calls::{Build, DateTime, Pair, Scan};
+use crate::calls::{Build, DateTime, Layout, Pair, Scan};
 
 #[derive(Clone, Copy)]
 pub struct Options {
@@ -32,8 +32,10 @@ pub trait Cases {
     /// The same of bytes of which it is known what they are: a form of a pair's value and nothing else, or to be refused.
     fn read_form(&mut self, bytes: &[u8], owed: Result<Pair, u32>);
     fn read_text(&mut self, input: &[u8]);
-    fn read_scan(&mut self, input: &[u8]);
+    fn read_scan(&mut self, input: &[u8], layout: Layout);
     fn write_scan(&mut self, scan: Scan);
+    /// A start written from a place of a buffer of that many bytes on.
+    fn write_start(&mut self, at: usize, room: usize);
     fn file(&mut self, file: &[u8]);
     /// A report over a file, with its W and G.
     fn report(&mut self, file: &[u8], w: u32, g: u32);

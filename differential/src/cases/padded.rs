@@ -43,7 +43,7 @@ pub fn drawn<'a, C: Cases + 'a>(options: Options) -> Vec<Section<'a, C>> {
     draws.into_iter().enumerate().map(section).collect()
 }
 
-/// Every input of up to three bytes, and what document 01's reader is given of short bodies.
+/// Every input of up to three bytes, and what the reader of the shortest form is given of short bodies.
 fn short_values(cases: &mut impl Cases) {
     all_short(3, &mut |input| cases.read_padded(input));
     all_short_bodies(&mut |input| cases.read_padded(input));

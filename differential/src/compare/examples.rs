@@ -1,5 +1,6 @@
 //! The documents' examples: the Rust and the library are both held against what the document says.
 
+use super::scans::{contents, written};
 use super::Run;
 use crate::calls::{Build, Library, Pair, Read};
 use crate::cases::Cases;
@@ -9,7 +10,7 @@ use crate::padded_readings::{PaddedReading, PADDED};
 use crate::readings::{Reading, READINGS};
 use crate::report_readings::{ReportReading, REPORTS};
 use crate::reports::WORD_COUNT;
-use crate::scan_readings::{FILES, SCANS};
+use crate::scan_readings::{FILES, SCANS, WRITTEN_AGAIN};
 
 pub fn all<L: Library>(run: &mut Run<'_, L>) {
     for example in &EXAMPLES {
@@ -68,19 +69,31 @@ fn reads_padded<L: Library>(run: &mut Run<'_, L>, reading: &PaddedReading) {
 }
 
 fn scans<L: Library>(run: &mut Run<'_, L>) {
+    let library = run.library;
     for reading in &SCANS {
-        run.read_scan(reading.bytes);
-        let expected = reading.answer(|build| run.library.build(build).pair);
-        let answer = run.library.read_scan(reading.bytes);
-        run.judge("read_scan", || format!("{:02x?}", reading.bytes), Ok(expected), answer);
+        run.read_scan(reading.bytes, reading.layout);
+        let case = || format!("{:?}, {:02x?}", reading.layout, reading.bytes);
+        let expected = reading.answer(|build| library.build(build).pair);
+        run.judge("read_scan", case, Ok(expected), library.read_scan(reading.bytes, reading.layout));
         if reading.owed.is_ok() {
             run.write_scan(expected.scan);
+        }
+        if let Some(bytes) = reading.written() {
+            let mut buffer = [0; 64];
+            let count = library.write_scan(expected.scan, &mut buffer, 0).written;
+            run.judge("the scan's bytes", case, Ok(bytes), &buffer[..count]);
         }
     }
     for reading in &FILES {
         run.file(reading.bytes);
-        let answer = run.library.check_file(reading.bytes);
-        run.judge("check_file", || format!("{:02x?}", reading.bytes), Ok(reading.owed), answer);
+        let case = || format!("{:02x?}", reading.bytes);
+        run.judge("file_layout", case, Ok(reading.layout), library.layout(reading.bytes));
+        run.judge("check_file", case, Ok(reading.owed), library.check_file(reading.bytes));
+    }
+    for (file, again) in WRITTEN_AGAIN {
+        run.file(file);
+        let answer = written(library, &contents(library, file).scans, again.len());
+        run.judge("written again", || format!("{file:02x?}"), Ok((again.to_vec(), again.len())), answer);
     }
 }
 

@@ -189,12 +189,16 @@ impl<L: Library> Cases for Run<'_, L> {
         self.judge("read text", case, expected::read_text(input), answer);
     }
 
-    fn read_scan(&mut self, input: &[u8]) {
-        self.judge_scan(input);
+    fn read_scan(&mut self, input: &[u8], layout: Layout) {
+        self.judge_scan(input, layout);
     }
 
     fn write_scan(&mut self, scan: Scan) {
         self.judge_written_scan(scan);
+    }
+
+    fn write_start(&mut self, at: usize, room: usize) {
+        self.judge_written_start(at, room);
     }
 
     fn file(&mut self, file: &[u8]) {

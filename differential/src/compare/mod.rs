@@ -23,12 +23,13 @@ enum Counted {
     ReadText,
     ReadScan,
     WriteScan,
+    WriteStart,
     File,
     Report,
     ReadPadded,
 }
 
-const COUNTED: [&str; 10] = [
+const COUNTED: [&str; 11] = [
     "build",
     "check",
     "writers",
@@ -36,6 +37,7 @@ const COUNTED: [&str; 10] = [
     "read text",
     "read scan",
     "write scan",
+    "write start",
     "check file",
     "report file",
     "read padded",

@@ -1,4 +1,4 @@
-//! Values read in any form: what the library answers, held against what the request's words make it owe, against what is
+//! Values read in any form: what the library answers, held against what the scope's words make it owe, against what is
 //! known of the bytes, and against its own reader of the shortest form.
 
 use super::{Counted, Run};

@@ -1,5 +1,5 @@
-//! Reports over files: what the library answers and leaves in the lent words, held against what the request's words make
-//! it owe, and, where it accepts, against the report that a user would write by hand.
+//! Reports over files: what the library answers and leaves in the lent words, held against what the scope's words make it
+//! owe, and, where it accepts, against the report that a user would write by hand.
 
 use super::{Counted, Run};
 use crate::calls::{Library, Report};
@@ -8,7 +8,7 @@ use crate::plain_report;
 use crate::reports::{self, WORD_COUNT};
 
 /// How many words are lent.
-const LENT: [usize; 6] = [0, 1, WORD_COUNT - 1, WORD_COUNT, WORD_COUNT + 1, 800];
+const LENT: [usize; 6] = [0, 1, WORD_COUNT - 1, WORD_COUNT, WORD_COUNT + 1, 1060];
 
 /// So many words, none of them 0 and no two the same, other ones in every second case.
 fn lent(count: usize, cases: u64) -> Vec<u64> {

@@ -18,6 +18,12 @@ use std::cmp::Ordering;
 
 pub struct Model;
 
+impl Model {
+    fn contents(&self, file: &[u8]) -> scans::Contents {
+        scans::contents(file, scans::layout(file), |input, layout| self.read_scan(input, layout))
+    }
+}
+
 /// The packed check.
 pub fn check(pair: Pair) -> Built {
     fields::check(pair)
@@ -188,13 +194,21 @@ impl Library for Model {
         text_reader::fields_of(input).map_or_else(|refused| refused, |build| self.build(&build))
     }
 
-    fn read_scan(&self, input: &[u8]) -> ScanRead {
-        scans::read(input, |value| self.read(value))
+    fn layout(&self, file: &[u8]) -> Layout {
+        scans::layout(file)
+    }
+
+    fn read_scan(&self, input: &[u8], layout: Layout) -> ScanRead {
+        scans::read(input, layout, |value| self.read(value))
+    }
+
+    fn write_start(&self, buffer: &mut [u8], at: usize) -> Written {
+        put(&scans::START, buffer.get_mut(at..).unwrap_or_default())
     }
 
     fn write_scan(&self, scan: Scan, buffer: &mut [u8], at: usize) -> Written {
         let bytes = on_one(scan.pair, |fields| {
-            let numbers = [scan.tag, scan.guard].map(|number| writing::var_uint(number as u64));
+            let numbers = [scan.site, scan.tag, scan.guard].map(|number| writing::var_uint(number as u64));
             [numbers.concat(), writing::value(&utc_and(fields))].concat()
         });
         // Past the end there is no room for any scan.
@@ -202,11 +216,11 @@ impl Library for Model {
     }
 
     fn check_file(&self, file: &[u8]) -> FileRead {
-        scans::contents(file, |input| self.read_scan(input)).checked()
+        self.contents(file).checked()
     }
 
     fn report_file(&self, file: &[u8], w: u32, g: u32, words: &mut [u64]) -> Report {
-        reports::answer(w, g, words, || scans::contents(file, |input| self.read_scan(input)))
+        reports::answer(w, g, words, || self.contents(file))
     }
 
     fn write_var_uint(&self, value: u64, buffer: &mut [u8]) -> Option<Written> {

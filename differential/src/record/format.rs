@@ -4,8 +4,8 @@
 //! these bytes: fields of a fixed width, big-endian, and in some kinds last a run of bytes after its length (1 byte).
 //! Whoever reads two bytes and then as many as the second says needs no look-ahead, and has every field at a fixed
 //! place. `n2` below is a field of two bytes; signed numbers are in two's complement; a pair is the word and the
-//! attoseconds, `n8 n8`; a scan is its tag, its guard and its pair, `n4 n4 n8 n8`; a number is a refusal's, 0 for
-//! accepted; an order or a sign is 00, 01 or FF for -1.
+//! attoseconds, `n8 n8`; a scan is its site, its tag, its guard and its pair, `n4 n4 n4 n8 n8`; a layout is 0 old, 1
+//! new; a number is a refusal's, 0 for accepted; an order or a sign is 00, 01 or FF for -1.
 //!
 //! | kind | what | arguments | answer |
 //! |---|---|---|---|
@@ -22,10 +22,10 @@
 //! | 0A | VarInt | value n8, signed | bytes |
 //! | 0B | padded digits | value n8, width n1 | bytes |
 //! | 0C | text read | bytes, last | number n1, pair |
-//! | 0D | scan read | bytes, last | number n1, scan, taken n1 |
+//! | 0D | scan read | layout n1, after the number; bytes, last | number n1, scan, taken n1 |
 //! | 0E | scan written | scan | number n1, bytes |
-//! | 0F | file checked | bytes, last | number n1, how many scans n1 |
-//! | 10 | file reported | W n4, G n4, lent words n2, bytes, last | number n1, five counts n1 each, six words n8 each |
+//! | 0F | file checked | bytes, last | number n1, layout n1, how many scans n1 |
+//! | 10 | file reported | W n4, G n4, lent words n2, bytes, last | number n1, five counts n1 each, eight words n8 each |
 //! | 11 | padded value read | bytes, last | number n1, pair, taken n1 |
 //! | FF | end | | how many records of the kinds 01 to 11 there were n4 |
 //!
@@ -33,11 +33,12 @@
 //! each, the fraction's kind n1 and two numbers n8 n8, the offset's kind n1 and its minutes n4. codes.rs has the codes.
 //! Fields finer than the stage are there too, and are not given to the builder.
 //!
-//! The words of kind 10 are those of the first two tags, 0 where there are fewer or where it is refused. The words that
+//! The words of kind 10 are those of the first two posts, 0 where there are fewer or where it is refused. The words that
 //! are lent are all 7 before.
 
 use crate::calls::*;
 use crate::codes;
+use crate::reports::POST_WORDS;
 
 #[derive(Clone, PartialEq, Eq, Debug)]
 pub enum Record {
@@ -54,9 +55,9 @@ pub enum Record {
     VarInt(i64, Vec<u8>),
     ZeroPadded(u64, u8, Vec<u8>),
     ReadText(Vec<u8>, Built),
-    ReadScan(Vec<u8>, ScanRead),
+    ReadScan(Vec<u8>, Layout, ScanRead),
     WriteScan(Scan, u32, Vec<u8>),
-    File(Vec<u8>, FileRead),
+    File(Vec<u8>, Layout, FileRead),
     Report(Reported),
     ReadPadded(Vec<u8>, Read),
     End(u32),
@@ -72,7 +73,10 @@ pub struct Orders {
     pub ion_eq: bool,
 }
 
-/// A report over a file: what was asked and answered, and the words of the first two tags.
+/// How many words of a report are recorded: those of two posts.
+pub const REPORTED_WORDS: usize = 2 * POST_WORDS;
+
+/// A report over a file: what was asked and answered, and the words of the first two posts.
 #[derive(Clone, PartialEq, Eq, Debug)]
 pub struct Reported {
     pub file: Vec<u8>,
@@ -80,7 +84,7 @@ pub struct Reported {
     pub g: u32,
     pub lent: u16,
     pub answer: Report,
-    pub words: [u64; 6],
+    pub words: [u64; REPORTED_WORDS],
 }
 
 impl Record {
@@ -156,13 +160,13 @@ impl Record {
                 rest.built(answer);
                 rest.bytes(input);
             }
-            Record::ReadScan(input, answer) => {
-                rest.byte(answer.number as u8).scan(answer.scan);
+            Record::ReadScan(input, layout, answer) => {
+                rest.byte(answer.number as u8).byte(*layout as u8).scan(answer.scan);
                 rest.byte(answer.taken as u8).bytes(input);
             }
             Record::WriteScan(scan, number, bytes) => rest.scan(*scan).byte(*number as u8).bytes(bytes),
-            Record::File(file, answer) => {
-                rest.byte(answer.number as u8).byte(answer.scans as u8).bytes(file);
+            Record::File(file, layout, answer) => {
+                rest.byte(answer.number as u8).byte(*layout as u8).byte(answer.scans as u8).bytes(file);
             }
             Record::Report(reported) => {
                 rest.half(reported.w).half(reported.g).quarter(reported.lent).report(&reported.answer);
@@ -203,14 +207,15 @@ impl Record {
                 Record::ReadText(fields.bytes()?, answer)
             }
             0x0D => {
-                let number = fields.byte()? as u32;
+                let (number, layout) = (fields.byte()? as u32, fields.layout()?);
                 let answer = ScanRead { number, scan: fields.scan()?, taken: fields.byte()? as usize };
-                Record::ReadScan(fields.bytes()?, answer)
+                Record::ReadScan(fields.bytes()?, layout, answer)
             }
             0x0E => Record::WriteScan(fields.scan()?, fields.byte()? as u32, fields.bytes()?),
             0x0F => {
-                let answer = FileRead { number: fields.byte()? as u32, scans: fields.byte()? as usize };
-                Record::File(fields.bytes()?, answer)
+                let (number, layout) = (fields.byte()? as u32, fields.layout()?);
+                let answer = FileRead { number, scans: fields.byte()? as usize };
+                Record::File(fields.bytes()?, layout, answer)
             }
             0x10 => {
                 let (w, g, lent) = (fields.half()?, fields.half()?, fields.quarter()?);
@@ -257,7 +262,7 @@ impl Rest {
     }
 
     fn scan(&mut self, scan: Scan) -> &mut Self {
-        self.half(scan.tag).half(scan.guard).pair(scan.pair)
+        self.half(scan.site).half(scan.tag).half(scan.guard).pair(scan.pair)
     }
 
     fn built(&mut self, built: &Built) {
@@ -324,7 +329,7 @@ impl Fields<'_> {
     }
 
     fn scan(&mut self) -> Option<Scan> {
-        Some(Scan { tag: self.half()?, guard: self.half()?, pair: self.pair()? })
+        Some(Scan { site: self.half()?, tag: self.half()?, guard: self.half()?, pair: self.pair()? })
     }
 
     fn built(&mut self) -> Option<Built> {
@@ -342,8 +347,12 @@ impl Fields<'_> {
         Some(Report { number: number as u32, counts: Counts { scans, doubles, kept, gaps, backward } })
     }
 
-    fn words(&mut self) -> Option<[u64; 6]> {
-        let mut words = [0; 6];
+    fn layout(&mut self) -> Option<Layout> {
+        Layout::ALL.get(self.byte()? as usize).copied()
+    }
+
+    fn words(&mut self) -> Option<[u64; REPORTED_WORDS]> {
+        let mut words = [0; REPORTED_WORDS];
         for word in &mut words {
             *word = self.word()?;
         }

@@ -1,6 +1,6 @@
 //! Replays recorded answers.
 
-use super::format::{Orders, Record, Reported};
+use super::format::{Orders, Record, Reported, REPORTED_WORDS};
 use crate::calls::*;
 use crate::refusals::SHORT_BUFFER;
 use crate::reports::WORD_COUNT;
@@ -54,11 +54,11 @@ fn agrees<L: Library>(library: &L, record: &Record) -> bool {
             writes(0, bytes, |buffer| library.write_zero_padded(*value, *width as usize, buffer))
         }
         Record::ReadText(input, answer) => library.read_text(input) == *answer,
-        Record::ReadScan(input, answer) => library.read_scan(input) == *answer,
+        Record::ReadScan(input, layout, answer) => library.read_scan(input, *layout) == *answer,
         Record::WriteScan(scan, number, bytes) => {
             writes(*number, bytes, |buffer| Some(library.write_scan(*scan, buffer, 0)))
         }
-        Record::File(file, answer) => library.check_file(file) == *answer,
+        Record::File(file, layout, answer) => library.layout(file) == *layout && library.check_file(file) == *answer,
         Record::Report(reported) => reports(library, reported),
         Record::ReadPadded(input, answer) => library.read_padded(input) == *answer,
         Record::Source(_) | Record::End(_) => false,
@@ -79,8 +79,8 @@ fn orders<L: Library>(library: &L, first: Pair, second: Pair) -> Option<Orders> 
     })
 }
 
-/// Whether a report answers so, and leaves in words that were all 7 the six, 0 up to the 768th, and 7; all 7 beside a
-/// refusal.
+/// Whether a report answers so, and leaves in words that were all 7 those of the record, 0 up to the 1,024th, and 7; all 7
+/// beside a refusal.
 fn reports<L: Library>(library: &L, reported: &Reported) -> bool {
     let mut words = vec![7; reported.lent as usize];
     let mut left = words.clone();
@@ -89,8 +89,8 @@ fn reports<L: Library>(library: &L, reported: &Reported) -> bool {
             return false;
         };
         used.fill(0);
-        used[..6].copy_from_slice(&reported.words);
-    } else if reported.words != [0; 6] {
+        used[..REPORTED_WORDS].copy_from_slice(&reported.words);
+    } else if reported.words != [0; REPORTED_WORDS] {
         return false;
     }
     let answer = library.report_file(&reported.file, reported.w, reported.g, &mut words);

@@ -1,6 +1,6 @@
 //! Which cases are recorded, and their answers.
 
-use super::format::{Orders, Record, Reported};
+use super::format::{Orders, Record, Reported, REPORTED_WORDS};
 use crate::calls::*;
 use crate::cases::Cases;
 use crate::differences;
@@ -13,13 +13,14 @@ use crate::readings::READINGS;
 use crate::report_readings::{ReportReading, REPORTS};
 use crate::reports;
 use crate::scan_readings::{FILES, SCANS};
+use crate::scans;
 use std::collections::BTreeMap;
 
 /// The longest run of bytes that is recorded.
 const LONGEST: usize = 128;
 
-/// How many words are lent to a report.
-const LENT: [u16; 8] = [0, 767, 768, 768, 768, 769, 800, 1_000];
+/// How many words are lent to a report: at most as many as who replays has.
+const LENT: [u16; 8] = [0, 1_023, 1_024, 1_024, 1_024, 1_025, 1_032, 1_040];
 
 /// Of accepted cases this many times as many are kept as of those that are refused with one number.
 const ACCEPTED: usize = 5;
@@ -45,10 +46,10 @@ enum Kind {
     VarInt,
     ZeroPadded,
     ReadText,
-    ReadScan,
+    ReadScan(Layout),
     WriteScan,
-    File,
-    Report,
+    File(Layout),
+    Report(Layout),
     ReadPadded,
 }
 
@@ -81,11 +82,11 @@ impl Sample {
         let kept = self.kept.entry((kind, number)).or_default();
         self.place += 1;
         kept.seen += 1;
-        // Of scans, half as many, and of reports a quarter: what they are made of is recorded alone too. Of values in any
-        // form half as many: there are more sections of them.
+        // Of scans in each layout, half as many, and of reports a quarter: what they are made of is recorded alone too. Of
+        // values in any form half as many: there are more sections of them.
         let of_each = match kind {
-            Kind::Report => self.of_each.div_ceil(4),
-            Kind::ReadScan | Kind::WriteScan | Kind::File | Kind::ReadPadded => self.of_each.div_ceil(2),
+            Kind::Report(_) => self.of_each.div_ceil(4),
+            Kind::ReadScan(_) | Kind::WriteScan | Kind::File(_) | Kind::ReadPadded => self.of_each.div_ceil(2),
             _ => self.of_each,
         };
         let enough = if number == 0 { ACCEPTED * of_each } else { of_each };
@@ -146,24 +147,25 @@ impl Cases for Sample {
         }
     }
 
-    fn read_scan(&mut self, input: &[u8]) {
-        let read = expected::read_scan(input);
-        self.offer(Kind::ReadScan, read.number, || vec![Record::ReadScan(input.to_vec(), read)]);
+    fn read_scan(&mut self, input: &[u8], layout: Layout) {
+        let read = expected::read_scan(input, layout);
+        self.offer(Kind::ReadScan(layout), read.number, || vec![Record::ReadScan(input.to_vec(), layout, read)]);
     }
 
     fn write_scan(&mut self, scan: Scan) {
-        let (number, bytes) = written(oracle::scan(scan));
+        let (number, bytes) = written(oracle::scan(scan, Layout::New));
         self.offer(Kind::WriteScan, number, || vec![Record::WriteScan(scan, number, bytes)]);
     }
 
     fn file(&mut self, file: &[u8]) {
         if file.len() <= LONGEST {
-            let read = expected::contents(file).checked();
-            self.offer(Kind::File, read.number, || vec![Record::File(file.to_vec(), read)]);
+            let contents = expected::contents(file);
+            let (layout, read) = (contents.layout, contents.checked());
+            self.offer(Kind::File(layout), read.number, || vec![Record::File(file.to_vec(), layout, read)]);
         }
     }
 
-    /// Reports of up to two tags, with enough lent words or too few, and refused ones.
+    /// Reports of up to two posts, with enough lent words or too few, and refused ones.
     fn report(&mut self, file: &[u8], w: u32, g: u32) {
         if file.len() > LONGEST {
             return;
@@ -171,12 +173,12 @@ impl Cases for Sample {
         let lent = self.random.pick(&LENT);
         let mut words = vec![0; lent as usize];
         let answer = reports::answer(w, g, &mut words, || expected::contents(file));
-        if words.iter().skip(6).any(|word| *word != 0) {
+        if words.iter().skip(REPORTED_WORDS).any(|word| *word != 0) {
             return;
         }
         let words = std::array::from_fn(|place| words.get(place).copied().unwrap_or(0));
         let reported = || Reported { file: file.to_vec(), w, g, lent, answer, words };
-        self.offer(Kind::Report, answer.number, || vec![Record::Report(reported())]);
+        self.offer(Kind::Report(scans::layout(file)), answer.number, || vec![Record::Report(reported())]);
     }
 
     fn var_uint(&mut self, value: u64) {
@@ -197,6 +199,7 @@ impl Cases for Sample {
         }
     }
 
+    fn write_start(&mut self, _at: usize, _room: usize) {}
     fn shift(&mut self, _time: DateTime, _offset: i32) {}
     fn month_length(&mut self, _year: u32, _month: u32) {}
     fn year_start(&mut self, _year: u32) {}
@@ -284,25 +287,23 @@ fn scans() -> Vec<Record> {
     let mut records = Vec::new();
     for reading in &SCANS {
         let read = reading.answer(pair_of);
-        records.push(Record::ReadScan(reading.bytes.to_vec(), read));
-        if read.number == 0 {
-            records.push(Record::WriteScan(read.scan, 0, reading.bytes[..read.taken].to_vec()));
-        }
+        records.push(Record::ReadScan(reading.bytes.to_vec(), reading.layout, read));
+        records.extend(reading.written().map(|bytes| Record::WriteScan(read.scan, 0, bytes.to_vec())));
     }
-    records.extend(FILES.iter().map(|reading| Record::File(reading.bytes.to_vec(), reading.owed)));
+    records.extend(FILES.iter().map(|reading| Record::File(reading.bytes.to_vec(), reading.layout, reading.owed)));
     records
 }
 
 fn reported(reading: &ReportReading) -> Record {
     let mut words = reading.words(pair_of);
-    words.resize(6, 0);
+    words.resize(REPORTED_WORDS, 0);
     Record::Report(Reported {
         file: reading.file(),
         w: reading.w,
         g: reading.g,
         lent: reading.lent as u16,
         answer: reading.report(),
-        words: words.try_into().expect("a reading has at most two tags"),
+        words: words.try_into().expect("a reading has at most two posts"),
     })
 }
 

@@ -6,7 +6,7 @@ mod wrong;
 mod wrong_padded;
 mod wrong_reports;
 
-use crate::calls::{Build, Fraction, Offset};
+use crate::calls::{Build, FileRead, Fraction, Layout, Offset, Pair, Report, Scan, ScanRead};
 use crate::cases::Options;
 use crate::compare;
 use crate::damage;
@@ -18,7 +18,8 @@ use crate::oracle::{self, Answer};
 use crate::plain_reader;
 use crate::plain_value_reader;
 use crate::random::Random;
-use crate::record::{self, format::Record, replay};
+use crate::record::format::{Record, Reported};
+use crate::record::{self, replay};
 use crate::timing;
 
 const SHORT: Options = Options { seed: 7, draws: 2_000, drawn_only: true };
@@ -111,7 +112,7 @@ fn the_writer_of_scans_that_is_timed_writes_as_the_rust_does() {
         let scan = generate::scan(&mut random);
         let mut buffer = [0; 64];
         let written = timing::scans::write_scan(&scan, &timing::stamp(scan.pair), &mut buffer);
-        assert_eq!(buffer[..written], oracle::file(&[scan]));
+        assert_eq!(buffer[..written], oracle::scans(&[scan], Layout::New));
     }
 }
 
@@ -133,6 +134,24 @@ fn recorded_answers_come_back_and_are_replayed() {
 
     assert!(replay::replay(&Model, &bytes[..bytes.len() - 1]).is_err());
     assert!(replay::replay(&Model, &[&bytes[..], &[0]].concat()).is_err());
+}
+
+#[test]
+fn records_of_scans_have_their_fields_in_fixed_places() {
+    let scan = Scan { site: 1, tag: 2, guard: 3, pair: Pair { word: 4, attoseconds: 5 } };
+    let bytes = vec![0xAA, 0xBB];
+    let fields = [0, 0, 0, 1, 0, 0, 0, 2, 0, 0, 0, 3, 0, 0, 0, 0, 0, 0, 0, 4, 0, 0, 0, 0, 0, 0, 0, 5];
+    let read = Record::ReadScan(bytes.clone(), Layout::New, ScanRead { number: 0, scan, taken: 6 });
+    assert_eq!(read.encoded(), [&[0x0D, 34, 0, 1][..], &fields, &[6, 2, 0xAA, 0xBB]].concat());
+    let written = Record::WriteScan(scan, 7, bytes.clone());
+    assert_eq!(written.encoded(), [&[0x0E, 32][..], &fields, &[7, 2, 0xAA, 0xBB]].concat());
+    let file = Record::File(bytes.clone(), Layout::New, FileRead { number: 0, scans: 9 });
+    assert_eq!(file.encoded(), [0x0F, 6, 0, 1, 9, 2, 0xAA, 0xBB]);
+    let (answer, words) = (Report { number: 20, ..Report::default() }, [0; 8]);
+    let reported = Record::Report(Reported { file: bytes, w: 1, g: 2, lent: 0x0304, answer, words });
+    let asked = [0, 0, 0, 1, 0, 0, 0, 2, 3, 4];
+    let answered = [&[20][..], &[0; 5 + 64], &[2, 0xAA, 0xBB]].concat();
+    assert_eq!(reported.encoded(), [&[0x10, 83][..], &asked, &answered].concat());
 }
 
 #[test]

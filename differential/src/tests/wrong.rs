@@ -71,6 +71,37 @@ enum Fault {
     ScanRoomFirst,
     /// One that always writes from the buffer's beginning.
     ForgetsThePlace,
+    /// A reader of new scans with the tag first, or one that gives old scans a site.
+    SwapsSiteAndTag,
+    SitesInOldScans,
+    /// One that looks at the tag before the site.
+    TagBeforeSite,
+    /// One whose refusals keep the site.
+    KeepsTheSite,
+    /// One that passes over a start: before an old scan, or before a new one.
+    StartInOldScans,
+    StartInNewScans,
+    /// A writer of scans without the site, or with the tag first.
+    WritesNoSite,
+    TagFirst,
+    /// A writer of starts that writes none, one of 00 80, one always at the buffer's beginning, or half of one where
+    /// there is no room for more.
+    WritesNoStart,
+    StartOf80,
+    StartForgetsThePlace,
+    WritesHalfAStart,
+    /// One that takes new files for old ones, or old ones for new ones.
+    AllOld,
+    AllNew,
+    /// One that tells the layout alone so.
+    TellsOld,
+    /// One for which a file without bytes is a new one.
+    EmptyIsNew,
+    /// One that takes 00 and any byte for a start, or 00 alone.
+    AnyStart,
+    ZeroAlone,
+    /// One for which a start is not a file.
+    NoStartAlone,
     /// A reader of files that keeps the scans before the damage.
     KeepsScans,
     /// One for which a file has a scan at least.
@@ -83,7 +114,7 @@ enum Fault {
     Padded(Option<wrong_padded::Fault>),
 }
 
-const ALL: [Fault; 41] = [
+const ALL: [Fault; 60] = [
     Fault::ReadsNothing,
     Fault::TakesMore,
     Fault::DropsTheSecond,
@@ -122,6 +153,25 @@ const ALL: [Fault; 41] = [
     Fault::GuardFirst,
     Fault::ScanRoomFirst,
     Fault::ForgetsThePlace,
+    Fault::SwapsSiteAndTag,
+    Fault::SitesInOldScans,
+    Fault::TagBeforeSite,
+    Fault::KeepsTheSite,
+    Fault::StartInOldScans,
+    Fault::StartInNewScans,
+    Fault::WritesNoSite,
+    Fault::TagFirst,
+    Fault::WritesNoStart,
+    Fault::StartOf80,
+    Fault::StartForgetsThePlace,
+    Fault::WritesHalfAStart,
+    Fault::AllOld,
+    Fault::AllNew,
+    Fault::TellsOld,
+    Fault::EmptyIsNew,
+    Fault::AnyStart,
+    Fault::ZeroAlone,
+    Fault::NoStartAlone,
     Fault::KeepsScans,
     Fault::NoEmptyFile,
     Fault::LeavesTheDamage,
@@ -272,20 +322,45 @@ impl Library for Wrong {
         }
     }
 
-    fn read_scan(&self, input: &[u8]) -> ScanRead {
-        let read = Model.read_scan(input);
+    fn layout(&self, file: &[u8]) -> Layout {
+        match (self.0, file) {
+            (Fault::AllOld | Fault::TellsOld, _) => Layout::Old,
+            (Fault::AllNew, _) | (Fault::EmptyIsNew, []) | (Fault::AnyStart, [0x00, _, ..]) => Layout::New,
+            _ => Model.layout(file),
+        }
+    }
+
+    fn read_scan(&self, input: &[u8], layout: Layout) -> ScanRead {
+        let read = Model.read_scan(input, layout);
         let refused = |number| ScanRead { number, ..ScanRead::default() };
+        let after = |skipped: usize, layout: Layout| {
+            let read = Model.read_scan(&input[skipped..], layout);
+            ScanRead { taken: if read.number == 0 { read.taken + skipped } else { 0 }, ..read }
+        };
+        let is_new = layout == Layout::New;
         match (self.0, input) {
-            (Fault::TakesPadding, [0x00, rest @ ..]) if read.number == 19 => {
-                let read = Model.read_scan(rest);
-                ScanRead { taken: read.taken + (read.number == 0) as usize, ..read }
+            (Fault::TakesPadding, [0x00, ..]) if read.number == 19 => after(1, layout),
+            (Fault::StartInOldScans, [0x00, 0x82, ..]) if !is_new => after(2, Layout::New),
+            (Fault::StartInNewScans, [0x00, 0x82, ..]) if is_new => after(2, layout),
+            (Fault::SwapsSiteAndTag, _) if is_new => {
+                let Scan { site, tag, .. } = read.scan;
+                ScanRead { scan: Scan { site: tag, tag: site, ..read.scan }, ..read }
+            }
+            (Fault::SitesInOldScans, _) if !is_new && read.number == 0 => {
+                ScanRead { scan: Scan { site: read.scan.tag, ..read.scan }, ..read }
+            }
+            (Fault::TagBeforeSite, [0x00, _, rest @ ..]) if is_new => {
+                refused(if Model.read_scan(rest, Layout::Old).number == 13 { 13 } else { 19 })
+            }
+            (Fault::KeepsTheSite, [site @ 0x80..=0xFF, ..]) if is_new && read.number != 0 => {
+                ScanRead { scan: Scan { site: *site as u32 - 0x80, ..Scan::default() }, ..read }
             }
             (Fault::LargeBeforeItsMark, [0x10..=0x7F, 0..=0x7F, 0..=0x7F, 0..=0x7F]) => refused(19),
             (Fault::WantsSixBytes, [_, _, _, _, 0..=0x7F]) if read.number == 19 => refused(13),
-            (Fault::ValueFirst, [0x80, 0x00, _, rest @ ..]) if read.number == 19 => {
+            (Fault::ValueFirst, [0x80, 0x00, _, rest @ ..]) if !is_new && read.number == 19 => {
                 refused(Model.read(rest).number.max(13))
             }
-            (Fault::KeepsTheTag, [tag @ 0x80..=0xFF, ..]) if read.number != 0 => {
+            (Fault::KeepsTheTag, [tag @ 0x80..=0xFF, ..]) if !is_new && read.number != 0 => {
                 ScanRead { scan: Scan { tag: *tag as u32 - 0x80, ..Scan::default() }, ..read }
             }
             (Fault::TakenOfTheValue, _) if read.number == 0 => {
@@ -301,17 +376,55 @@ impl Library for Wrong {
             Fault::GuardFirst => Model.write_scan(Scan { tag: scan.guard, guard: scan.tag, ..scan }, buffer, at),
             Fault::ScanRoomFirst if buffer.len() < 5 => Written { number: 16, written: 0 },
             Fault::ForgetsThePlace => Model.write_scan(scan, buffer, 0),
+            Fault::TagFirst => Model.write_scan(Scan { site: scan.tag, tag: scan.site, ..scan }, buffer, at),
+            Fault::WritesNoSite => {
+                let mut bytes = [0; 64];
+                let written = Model.write_scan(scan, &mut bytes, 0);
+                let site = bytes.iter().position(|byte| byte & 0x80 != 0).map_or(0, |mark| mark + 1);
+                match buffer.get_mut(at..).and_then(|rest| rest.get_mut(..written.written.saturating_sub(site))) {
+                    Some(place) if written.number == 0 => {
+                        place.copy_from_slice(&bytes[site..written.written]);
+                        Written { written: place.len(), ..written }
+                    }
+                    _ => Model.write_scan(scan, buffer, at),
+                }
+            }
             _ => Model.write_scan(scan, buffer, at),
+        }
+    }
+
+    fn write_start(&self, buffer: &mut [u8], at: usize) -> Written {
+        match self.0 {
+            Fault::WritesNoStart => Written { number: 0, written: 0 },
+            Fault::StartForgetsThePlace => Model.write_start(buffer, 0),
+            Fault::StartOf80 => {
+                let written = Model.write_start(buffer, at);
+                if written.number == 0 {
+                    buffer[at + 1] = 0x80;
+                }
+                written
+            }
+            Fault::WritesHalfAStart => {
+                if let Some(first) = buffer.get_mut(at) {
+                    *first = 0x00;
+                }
+                Model.write_start(buffer, at)
+            }
+            _ => Model.write_start(buffer, at),
         }
     }
 
     fn check_file(&self, file: &[u8]) -> FileRead {
         let read = Model.check_file(file);
-        let before = || scans::contents(file, |input| Model.read_scan(input)).scans.len();
-        match self.0 {
-            Fault::KeepsScans => FileRead { scans: before(), ..read },
-            Fault::NoEmptyFile if file.is_empty() => FileRead { number: 13, scans: 0 },
-            Fault::LeavesTheDamage => FileRead { number: 0, scans: before() },
+        let contents = |layout| scans::contents(file, layout, |input, layout| Model.read_scan(input, layout));
+        let before = || contents(Model.layout(file)).scans.len();
+        match (self.0, file) {
+            (Fault::KeepsScans, _) => FileRead { scans: before(), ..read },
+            (Fault::NoEmptyFile, []) | (Fault::NoStartAlone, [0x00, 0x82]) => FileRead { number: 13, scans: 0 },
+            (Fault::LeavesTheDamage, _) => FileRead { number: 0, scans: before() },
+            (Fault::AllOld, _) => contents(Layout::Old).checked(),
+            (Fault::AllNew, _) | (Fault::AnyStart, [0x00, _, ..]) => contents(Layout::New).checked(),
+            (Fault::ZeroAlone, [0x00]) => FileRead { number: 0, scans: 0 },
             _ => read,
         }
     }

@@ -7,7 +7,7 @@ use crate::model::Model;
 
 #[derive(Clone, Copy, PartialEq, Eq, Debug)]
 pub enum Fault {
-    /// Document 01's reader in its place, or for bodies after a short descriptor.
+    /// The reader of the shortest form in its place, or for bodies after a short descriptor.
     ShortestOnly,
     ShortestAfterShort,
     /// Numbers of up to nine bytes, or of up to eleven.

@@ -1,8 +1,8 @@
 //! Times of the report over a file of scans, beside the one that a user would write by hand (plain_report.rs).
 //!
-//! A file is of one site and one day: its scans come as the day goes on, each up to two hours late, so that doubles, gaps
-//! and backward steps all occur and none can be foretold. Half of the stamps have a fraction; offsets are mixed. Tags
-//! are drawn over all 32 bits, or are 0, 1, 2 and so on.
+//! A file is of one day: its scans come as the day goes on, each up to two hours late, so that doubles, gaps and backward
+//! steps all occur and none can be foretold. Half of the stamps have a fraction; offsets are mixed. Sites and tags are
+//! drawn over all 32 bits, or are 0, 1, 2 and so on, at one site or at some.
 
 use super::{timed_once, Row, HEADS};
 use crate::calls::{Counts, DateTime, Library, Pair, Report, Scan};
@@ -40,21 +40,27 @@ fn pair(random: &mut Random, second: i64) -> Pair {
     generate::second_at(count, digits as u64, offset).expect("a time of the year 2026")
 }
 
-fn bytes(random: &mut Random, tags: &[u32], count: usize) -> Vec<u8> {
+fn bytes(random: &mut Random, posts: &[(u32, u32)], count: usize) -> Vec<u8> {
     let scan = |place: usize| {
         let second = (place * 86_400 / count) as i64 + random.between(0, 7_200);
-        Scan { tag: random.pick(tags), guard: random.below(1_000) as u32, pair: pair(random, second) }
+        let (site, tag) = random.pick(posts);
+        Scan { site, tag, guard: random.below(1_000) as u32, pair: pair(random, second) }
     };
     oracle::file(&(0..count).map(scan).collect::<Vec<_>>())
 }
 
-/// So many different tags of 32 bits.
-fn any_tags(random: &mut Random, count: usize) -> Vec<u32> {
-    let mut tags = BTreeSet::new();
-    while tags.len() < count {
-        tags.insert(random.bits() as u32);
+/// So many different posts of two numbers of 32 bits.
+fn any_posts(random: &mut Random, count: usize) -> Vec<(u32, u32)> {
+    let mut posts = BTreeSet::new();
+    while posts.len() < count {
+        posts.insert((random.bits() as u32, random.bits() as u32));
     }
-    tags.into_iter().collect()
+    posts.into_iter().collect()
+}
+
+/// The first tags of each of the first sites.
+fn first_posts(sites: u32, tags: u32) -> Vec<(u32, u32)> {
+    (0..sites).flat_map(|site| (0..tags).map(move |tag| (site, tag))).collect()
 }
 
 fn by_hand<L: Library>(library: &L, file: &[u8]) -> PlainReport {
@@ -84,12 +90,13 @@ fn file<L: Library>(library: &L, name: String, scans: usize, bytes: Vec<u8>) -> 
 
 fn files<L: Library>(library: &L, seed: u64) -> Vec<File> {
     let mut random = Random::new(seed);
-    let tags = [1, 16, 256].map(|count| (format!("{count} drawn"), any_tags(&mut random, count)));
-    let small_tags = [16, 256].map(|count| (format!("0 to {}", count - 1), (0..count).collect()));
+    let drawn = [1, 16, 256].map(|count| (format!("{count} drawn"), any_posts(&mut random, count)));
+    let of_one_site = [16, 256].map(|count| (format!("tags 0 to {}", count - 1), first_posts(1, count)));
+    let of_sites = [("16 sites of 16 tags".to_string(), first_posts(16, 16))];
     let mut files = Vec::new();
     for scans in SCANS {
-        for (name, tags) in tags.iter().chain(&small_tags) {
-            let bytes = bytes(&mut random, tags, scans);
+        for (name, posts) in drawn.iter().chain(&of_one_site).chain(&of_sites) {
+            let bytes = bytes(&mut random, posts, scans);
             files.push(file(library, format!("{name}, {scans}"), scans, bytes));
         }
     }
@@ -103,9 +110,9 @@ pub fn run<L: Library>(library: &L, seed: u64) {
         rows.iter_mut().for_each(Row::round);
     }
     println!("ns a scan of a report, best of {ROUNDS} rounds; seed {seed}");
-    println!("{:<26} {HEADS}", "tags, scans");
+    println!("{:<29} {HEADS}", "posts, scans");
     for (row, file) in rows.iter().zip(&files) {
-        println!("{:<26} {}", row.name, row.told(file.scans));
+        println!("{:<29} {}", row.name, row.told(file.scans));
     }
 }
 
