@@ -3,7 +3,7 @@ use Rattle.std.proofs.Common.{ℕ, ◌+◌, ◌<◌, ◌≤◌, ◌^◌, List, �
 use Rattle.ion.specs.Numbers.VarUInt.{varuint}
 use Rattle.binary.proofs.VarUInts.{length_varuint, groups_u64}
 
--- a tag or a guard has ten bytes at most
+-- a site, a tag or a guard has ten bytes at most
 pub number_few : (m : ℕ) (s : List ℕ) → m < 2 ^ 32 → length (varuint m ++ s) ≤ length s + 10
 number_few m s h = omega (arith, length_varuint m, groups_u64 m (omega arith), length-append (varuint m) s)
 

@@ -21,7 +21,7 @@ use Rattle.scans.specs.Scan.{scan_bytes, scan_check}
 use Rattle.scans.specs.File.{scans_in, contents_of, file_bytes, written_in_turn, file_in_turn}
 use Rattle.scans.specs.declared.Layout.TheVariants.{New}
 use Rattle.scans.specs.declared.Scan.{Scan}
-use Rattle.scan_laws.proofs.Scans.{Stored, stored_new, scan_advances, scan_inverse}
+use Rattle.scan_laws.proofs.Scans.{Stored, stored_new, scan_advances, scan_inverse, written_inverse}
 use Rattle.scan_laws.proofs.Layouts.{contents_by, new_contents, new_start}
 
 -- ---- written and read
@@ -29,12 +29,12 @@ use Rattle.scan_laws.proofs.Layouts.{contents_by, new_contents, new_start}
 module _ (xs : List Scan) (p : AllStored (Stored New) xs) where
   -- with bytes after it
   pub file_written : (r : List ℕ) → contents_of (file_bytes xs ++ r) ≡ all_before xs (scans_in New r)
-  unfolding scans_in file_bytes scan_bytes
-  file_written r = new_contents (in_turn scan_bytes xs ++ r) ∙ contents_written (scan_advances New) (scan_inverse New) xs r p
+  unfolding scans_in file_bytes
+  file_written r = new_contents (in_turn scan_bytes xs ++ r) ∙ contents_written (scan_advances New) written_inverse xs r p
 
   pub file_back : contents_of (file_bytes xs) ≡ contents_with xs (Ok tt)
-  unfolding scans_in file_bytes scan_bytes
-  file_back = new_contents (in_turn scan_bytes xs) ∙ contents_back (scan_advances New) (scan_inverse New) xs p
+  unfolding scans_in file_bytes
+  file_back = new_contents (in_turn scan_bytes xs) ∙ contents_back (scan_advances New) written_inverse xs p
 
 -- different scans have different files
 pub files_apart : (xs ys : List Scan) → AllStored (Stored New) xs → AllStored (Stored New) ys → file_bytes xs ≡ file_bytes ys → xs ≡ ys
@@ -94,11 +94,11 @@ module _ (s : List ℕ) (b : Below 256 s) where
 
   -- and is the same bytes, if it was new and read to its end
   pub file_again : layout_of s ≡ New → is_ok (contents_of s).ending ≡ true → file_bytes (contents_of s).items ≡ s
-  unfolding file_bytes scans_in scan_bytes
+  unfolding file_bytes scans_in
   file_again new e =
       let c = contents_by s New new in
       let ends = ap (λ (c : Contents Scan). is_ok c.ending) (sym c) ∙ e in
       ap (λ (c : Contents Scan). file_bytes c.items) c
       ∙ ap (λ (r : List ℕ). start_of New ++ r)
-      (contents_again (scan_advances New) (scan_inverse New) (drop 2 s) (below_drop 256 2 s b) ends)
+      (contents_again (scan_advances New) written_inverse (drop 2 s) (below_drop 256 2 s b) ends)
       ∙ sym (new_start s new)

@@ -1,5 +1,5 @@
 -- Scans: those written are read back whatever follows them, and whatever is read was written so; in either layout. Assumes nothing.
-use mathlib.Core.Path.{◌≡◌, refl, sym, ap, ap₂, ◌∙◌}
+use mathlib.Core.Path.{◌≡◌, sym, ap, ap₂, ◌∙◌}
 use mathlib.Core.List.{List, ◌++◌, append_assoc}
 use Prim.Native.Nat.{ℕ, ◌+◌, ◌*◌, ◌≤◌}
 use native.Mathlib.Omega.{arith}
@@ -28,11 +28,6 @@ use Rattle.scan_laws.proofs.Reading.{parts_read, in_parts}
 
 abbrev pub bytes_in : Layout → Scan → List ℕ
 bytes_in l x = site_bytes l x.site ++ (varuint x.tag ++ (varuint x.guard ++ value_of x.stamp))
-
--- the writer's is the new one
-pub new_bytes : (x : Scan) → bytes_in New x ≡ scan_bytes x
-unfolding scan_bytes
-new_bytes x = refl
 
 -- a scan that a file can hold
 pub record Stored (l : Layout) (x : Scan) : Type 0 where
@@ -166,9 +161,12 @@ scan_inverse l = record { back = scan_back l; is = scan_is l }
 
 -- ---- the writer's scans
 
-pub written_back : (x : Scan) (r : List ℕ) → Stored New x → read_scan New (scan_bytes x ++ r) ≡ Ok (x, length (scan_bytes x))
+pub written_inverse : Inverse (read_scan New) scan_bytes (Stored New)
 unfolding scan_bytes
-written_back x r p = scan_back New x r p
+written_inverse = scan_inverse New
+
+pub written_back : (x : Scan) (r : List ℕ) → Stored New x → read_scan New (scan_bytes x ++ r) ≡ Ok (x, length (scan_bytes x))
+written_back = written_inverse.back
 
 -- if one scan's bytes with bytes after them are another's with bytes after them, the scans are the same
 pub scans_apart : (x y : Scan) → Stored New x → Stored New y → (q r : List ℕ) → scan_bytes x ++ q ≡ scan_bytes y ++ r → x ≡ y

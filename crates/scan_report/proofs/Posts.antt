@@ -64,12 +64,6 @@ apart_last x (y ∷ l) p = go (apart_last x l p.1) (same_post x y) refl
     go h true q = (same_place x y l q ∙ p.0, p.1)
     go h false q = (none_last x y l (same_turned x y q) p.0, h)
 
-pub apart_after : (k : Kind) (x : Scan) (l : List Scan) → Apart l → Apart (last_after k x l)
-apart_after Double x l p = p
-apart_after Kept x l p = apart_last x l p
-apart_after Gap x l p = apart_last x l p
-apart_after Backward x l p = apart_last x l p
-
 -- so a scan whose post is that of the one at i has the place i
 pub place_at : (x : Scan) (l : List Scan) (i : ℕ) (d : Scan) → Apart l → i < length l → same_post x (get_or l i d) ≡ true
     → place_of x l ≡ i
