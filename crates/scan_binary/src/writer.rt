@@ -27,7 +27,7 @@ pub fn write_scan(buf: &mut [u8], at: usize, scan: Scan) -> Result<usize, Refusa
 {
     timestamp::check(scan.stamp)?;
     let mut bytes = [0u8; MAX_TIMESTAMP_LENGTH];
-    let value = timestamp_binary::gather_value(&mut bytes, scan.stamp);
+    let value = timestamp_binary::gathered_value(&mut bytes, scan.stamp);
     let site = VarUInt(scan.site as u64);
     let tag = VarUInt(scan.tag as u64);
     let guard = VarUInt(scan.guard as u64);

@@ -1,5 +1,7 @@
 -- The kinds of recorded cases, and how many bytes each has. Assumes nothing.
 use Rattle.std.specs.Prelude.{ℕ, ◌+◌, ◌-◌, Bool, true, false, cond, List, [], ◌∷◌, map, get_or, Result, Ok, Err}
+use Rattle.std.specs.Option.{option_map_or}
+use Rattle.std.specs.Result.{result_ok}
 use Rattle.test_cases.specs.declared.kinds.Kind.{Kind}
 use Rattle.test_cases.specs.declared.kinds.Kind.TheVariants as kind
 use Rattle.test_cases.specs.declared.kinds.UnknownKind.{UnknownKind}
@@ -73,3 +75,7 @@ has_run kind.PaddedRead = true
 -- the bytes of the case that begins as r does: the last byte before a run is the run's length
 unfoldable pub case_length : Kind → List ℕ → ℕ
 case_length k r = head_length k + cond (has_run k) (get_or r (head_length k - 1) 0) 0
+
+-- the same by the kind's number: 256, which no record has, for the number of no kind
+unfoldable pub length_by_number : ℕ → List ℕ → ℕ
+length_by_number n r = option_map_or (λ k. case_length k r) (result_ok (kind_of n)) 256

@@ -1,6 +1,6 @@
 // The kinds by their numbers.
-ghost use Rattle.std.specs.Prelude.{◌≡◌};
-ghost use Rattle.test_cases.specs.Kinds.{kind_of, head_length, has_run, case_length};
+ghost use Rattle.std.specs.Prelude.{◌≡◌, false, OnErr};
+ghost use Rattle.test_cases.specs.Kinds.{kind_of, head_length, has_run, case_length, length_by_number};
 
 use crate::reports::report_agrees;
 use crate::scans_read::{file_agrees, scan_agrees};
@@ -134,5 +134,27 @@ impl Kind {
             Kind::Report => report_agrees(r),
             Kind::PaddedRead => padded_read_agrees(r),
         }
+    }
+}
+
+// The number of bytes of a case of the kind with a number, which begins as `r` does: 256, which no record has, for the number
+// of no kind.
+#[tactic(auto, unfolding(crate::specs::Kinds::length_by_number))]
+pub fn case_length(kind: u8, r: &[u8]) -> usize
+    ensures { result ≡ length_by_number kind r.now }
+{
+    match Kind::try_from(kind) {
+        Ok(kind) => kind.case_length(r),
+        Err(_) => 256,
+    }
+}
+
+// Whether the library's answer to a case of the kind with a number is the recorded one; no answer is, to the number of no kind.
+pub fn agrees(kind: u8, r: &[u8]) -> bool
+    ensures { OnErr (kind_of kind) (result ≡ false) }
+{
+    match Kind::try_from(kind) {
+        Ok(kind) => kind.agrees(r),
+        Err(_) => false,
     }
 }

@@ -7,4 +7,4 @@ mod reports;
 mod scans_read;
 mod written;
 
-pub use kinds::{Kind, UnknownKind};
+pub use kinds::{Kind, UnknownKind, agrees, case_length};

@@ -2,16 +2,18 @@
 use mathlib.Core.Path.{◌≡◌, refl, sym, ap, ap₂, ◌∙◌}
 use mathlib.Core.List.{List, [], ◌∷◌, ◌++◌}
 use Prim.Native.Nat.{ℕ, zero, suc, ◌+◌, ◌-◌, ◌%◌, ◌≤◌, ◌<◌}
+use native.Mathlib.Nat.{sub-zero}
 use native.Mathlib.Omega.{arith}
 use borrow.Author.Tests.{le-leb, lt-leb}
-use lib.ListN.{length, take, drop, set}
+use lib.ListN.{length, take, drop, set, length-set}
 use lib.Seq.{length-take-le}
 use Rattle.ion.specs.Calls.Accepted.{Accepted}
-use Rattle.ion.specs.Calls.Output.{Run}
+use Rattle.ion.specs.Calls.Output.{Run, Between}
 use Rattle.ion.specs.Numbers.VarUInt.{groups, varuint, group_count}
 use Rattle.ion.specs.Value.Encode.{body_of, header, value_of}
 use Rattle.ion.specs.declared.Timestamp.{Timestamp}
 use Rattle.output.proofs.Runs.{run_front}
+use Rattle.output.proofs.Stores.{length_over}
 use Rattle.binary.proofs.Groups.{groups_one}
 use Rattle.binary.proofs.VarUInts.{count_shortest, count_some}
 use Rattle.timestamp_binary.proofs.Lengths.{body_length}
@@ -68,6 +70,12 @@ module _ {b t : List ℕ} {e : ℕ} (f : Front b t e) where
 -- ---- the header in front of a body that was put two bytes from the start of d
 
 module _ {s : Timestamp} {d b : List ℕ} {e : ℕ} (p : Accepted s) (m : 20 ≤ length d) (run : Run d 2 (body_of s) b e) where
+  most : e ≤ 20
+  most = omega (arith, body_length s p, run.next)
+
+  size : length b ≡ length d
+  size = ap length run.bytes ∙ length_over d 2 (body_of s) (omega (arith, run.next, most))
+
   front : Front b (body_of s) e
   front =
       let h : 2 ≤ length d = omega arith in
@@ -76,17 +84,26 @@ module _ {s : Timestamp} {d b : List ℕ} {e : ℕ} (p : Accepted s) (m : 20 ≤
   body_size : e - 2 ≡ length (body_of s)
   body_size = omega (arith, run.next)
 
-  pub stored_short : e - 2 ≤ 13 → take (e - 1) (drop 1 (set b 1 (0x60 + (e - 2)))) ≡ value_of s
+  pub stored_short : e - 2 ≤ 13 → Between (set b 1 (0x60 + (e - 2))) 1 e (value_of s)
   unfolding value_of
   stored_short h =
       let short = header_short (length (body_of s)) (omega (arith, body_size)) in
-      one_stored front (0x60 + (e - 2)) ∙ rw body_size (ap (λ (t : List ℕ). t ++ body_of s) (sym short))
+      record {
+        from = omega (arith, run.next);
+        to = simp length-set (omega (arith, size, most));
+        bytes = one_stored front (0x60 + (e - 2)) ∙ rw body_size (ap (λ (t : List ℕ). t ++ body_of s) (sym short));
+      }
 
-  pub stored_long : 13 < e - 2 → take e (set (set b 0 0x6e) 1 (0x80 + (e - 2))) ≡ value_of s
+  pub stored_long : 13 < e - 2 → Between (set (set b 0 0x6e) 1 (0x80 + (e - 2))) 0 e (value_of s)
   unfolding value_of
   stored_long h =
-      let long = header_long (length (body_of s)) (omega (arith, body_size)) (omega (arith, body_size, body_length s p)) in
-      two_stored front 0x6e (0x80 + (e - 2)) ∙ rw body_size (ap (λ (t : List ℕ). t ++ body_of s) (sym long))
+      let long = header_long (length (body_of s)) (omega (arith, body_size)) (omega (arith, body_size, most)) in
+      record {
+        from = omega arith;
+        to = simp length-set (omega (arith, size, most));
+        bytes = rw (sub-zero e)
+            (two_stored front 0x6e (0x80 + (e - 2)) ∙ rw body_size (ap (λ (t : List ℕ). t ++ body_of s) (sym long)));
+      }
 
 -- ---- a list of laws, for the code
 

@@ -1,13 +1,14 @@
 // Port of binary/timestamp.rs: a timestamp as a value of Ion binary, its header in front of its body.
-ghost use Rattle.std.specs.Prelude.{◌≡◌, ◌≤◌, length};
-ghost use Rattle.ion.specs.Calls.Output.{put_after, wrote_after};
+ghost use Rattle.std.specs.Prelude.{◌+◌, ◌≡◌, ◌≤◌, length};
+ghost use Rattle.ion.specs.Calls.Output.{Between, put_after, wrote_after};
 ghost use Rattle.ion.specs.Calls.Check.{check_of};
 ghost use Rattle.ion.specs.Calls.Accepted.{Accepted};
-ghost use Rattle.ion.specs.Value.Encode.{value_of};
+ghost use Rattle.ion.specs.Value.Encode.{body_of, value_of};
 
 use crate::body::{MAX_TIMESTAMP_LENGTH, put_body};
 use binary::var_uint::END_FLAG;
 use ion::{Refusal, Timestamp};
+use std::ops::Range;
 
 // The type descriptor of a timestamp, to which the length of its body is added.
 pub const TYPE_DESCRIPTOR: u8 = 0x60;
@@ -18,23 +19,35 @@ pub const MAX_INLINE_LENGTH: usize = 13;
 // The type descriptor of a longer body: its length follows.
 pub const LENGTH_FOLLOWS: u8 = 0x6e;
 
-// Gathers the value of an accepted timestamp in `bytes`: its header goes into the two bytes before its body.
+// Gathers the value of an accepted timestamp in `bytes`, and answers where it stands: its header goes into the two bytes before
+// its body, which begins at index 2.
 #[tactic(auto, using(crate::proofs::Headers::headers))]
-pub fn gather_value(bytes: &mut [u8], s: Timestamp) -> &[u8]
+pub fn gather_value(bytes: &mut [u8], s: Timestamp) -> Range<usize>
     requires accepted { Accepted s }
     requires room { 20 ≤ length bytes.old }
-    ensures { result.now ≡ value_of s }
+    ensures value { Between bytes.new result.start result.end (value_of s) }
+    ensures end { result.end ≡ 2 + length (body_of s) }
 {
     let end = put_body(bytes, 2, s);
     let length = end - 2;
     if length <= MAX_INLINE_LENGTH {
         bytes[1] = TYPE_DESCRIPTOR + length as u8;
-        &bytes[1..end]
+        1..end
     } else {
         bytes[0] = LENGTH_FOLLOWS;
         bytes[1] = END_FLAG + length as u8;
-        &bytes[..end]
+        0..end
     }
+}
+
+// Gathers the value of an accepted timestamp in `bytes`, as `gather_value` does, and lends it.
+pub fn gathered_value(bytes: &mut [u8], s: Timestamp) -> &[u8]
+    requires accepted { Accepted s }
+    requires room { 20 ≤ length bytes.old }
+    ensures { result.now ≡ value_of s }
+{
+    let place = gather_value(bytes, s);
+    &bytes[place]
 }
 
 // Writes the value of a timestamp from index `at` on.
@@ -45,6 +58,6 @@ pub fn encode_timestamp_value(buf: &mut [u8], at: usize, s: Timestamp) -> Result
 {
     timestamp::check(s)?;
     let mut bytes = [0u8; MAX_TIMESTAMP_LENGTH];
-    let value = gather_value(&mut bytes, s);
+    let value = gathered_value(&mut bytes, s);
     output::put_bytes(buf, at, value)
 }
