@@ -29,7 +29,7 @@ module _ (s : Timestamp) {f : Fields} (e : f ≡ fields_of (word_in s)) where
 
 -- ---- the last line
 
-two_digits : (n : ℕ) → n < 100 → max 1 (digit_count n) ≤ 2
+pub two_digits : (n : ℕ) → n < 100 → max 1 (digit_count n) ≤ 2
 two_digits n h = omega (arith, fewest 10 (lit< tt) 2 n (omega arith) (omega arith))
 
 -- eight bytes at most

@@ -10,7 +10,7 @@ ghost use Rattle.ion.specs.Text.Format.{text_of};
 
 use ion::{Refusal, Timestamp};
 use std::io::{self, Read, Write};
-use text::text_formatter::Padded;
+use text::text_formatter;
 
 // The longest input that is listed.
 const MAX_INPUT: usize = 65_536;
@@ -31,11 +31,9 @@ fn put_stop(buf: &mut [u8], at: usize, refusal: Refusal) -> usize
     ensures run { Run buf.old at (stop_line refusal) buf.new result }
     ensures bound { result ≤ at + 8 }
 {
-    let number = Padded {
-        value: refusal.number() as u64,
-        width: 1,
-    };
-    output::put(buf, at, (b"stop ".as_slice(), (number, b"\n".as_slice())))
+    let number = output::put(buf, at, b"stop ".as_slice());
+    let end = text_formatter::put_padded(buf, number, refusal.number() as u64, 1);
+    output::put(buf, end, b"\n".as_slice())
 }
 
 // Lists the values of `input` from the start of `buf` on; how many bytes that takes.

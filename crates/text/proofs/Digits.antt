@@ -1,10 +1,10 @@
 -- The laws of padded numbers, of which those of `places` are over any base, in decimal. Assumes nothing.
 use mathlib.Core.Path.{◌≡◌, sym, ap, ◌∙◌}
-use mathlib.Core.List.{List, [], ◌∷◌}
+use mathlib.Core.List.{List, [], ◌∷◌, ◌++◌, append-nil}
 use Prim.Native.Nat.{ℕ, suc, ◌+◌, ◌-◌, ◌/◌, ◌%◌, ◌^◌, ◌≤◌, ◌<◌, max}
 use native.Mathlib.Omega.{arith}
 use lib.Dec.{lit<, lit≤}
-use lib.ListN.{length}
+use lib.ListN.{length, drop_of_length-le}
 use Rattle.places.proofs.Laws.{length_places, fewest, place_is, place_split}
 use Rattle.places.proofs.Padded as base
 use Rattle.places.specs.Places.{places, places_on, byte_from}
@@ -53,3 +53,17 @@ two_digits v h =
 pub put_before : (at n w v : ℕ) {d e : List ℕ} → n ≡ max w (digit_count v) → Run d (at + n - max w (digit_count v)) (padded w v) e (at + n)
     → Run d at (padded w v) e (at + n)
 put_before at n w v {d} {e} s p = let z : at + n - max w (digit_count v) ≡ at = omega arith in rw z at p
+
+-- the same in room of just its size
+pub fills : (w v : ℕ) {d e : List ℕ} → length d ≡ length (padded w v) → Run d (length d - max w (digit_count v)) (padded w v) e (length d)
+    → e ≡ padded w v
+fills w v {d} {e} n p =
+    let s = padded w v in
+    let z : length d - max w (digit_count v) ≡ 0 = omega (arith, n, length_padded w v) in
+    (rw z at p).bytes ∙ ap (λ (l : List ℕ). s ++ l) (drop_of_length-le d (omega (arith, n))) ∙ append-nil s
+
+pub room_fits : (w v : ℕ) {k : ℕ} → k ≡ length (padded w v) → max w (digit_count v) ≤ k
+room_fits w v e = omega (arith, e, length_padded w v)
+
+-- for the code
+pub ruleset whole = (fills, room_fits)

@@ -51,9 +51,10 @@ impl Encode for Padded {
         digit_count(self.value).max(self.width)
     }
 
-    #[tactic(auto, using(crate::proofs::Digits::places_padded))]
+    #[tactic(auto, using(crate::proofs::Digits::whole))]
     fn encode(self, room: &mut [u8]) {
-        output::put_places::<10, b'0'>(room, self.value);
+        let end = room.len();
+        put_digits(room, end, self.value, self.width);
     }
 }
 
@@ -99,15 +100,13 @@ pub fn put_padded(buf: &mut [u8], at: usize, value: u64, width: usize) -> usize
     output::put(buf, at, Padded { value, width })
 }
 
-// Two digits, as a month, a day, an hour, a minute or a second has; the index after them. Both at once: by `put_places`,
-// one after the other, was tried, and a text took a little longer.
+// Two digits, as a month, a day, an hour, a minute or a second has; the index after them.
 pub fn put_two(buf: &mut [u8], at: usize, value: u32) -> usize
     requires { (at + 2 ≤ length buf.old) × (value < 100) }
     ensures { Run buf.old at (padded 2 value) buf.new result }
 {
-    let tens = b'0' + (value / 10) as u8;
-    let units = b'0' + (value % 10) as u8;
-    buf[at..at + 2].copy_from_slice(&[tens, units]);
+    buf[at + 1] = b'0' + (value % 10) as u8;
+    buf[at] = b'0' + (value / 10) as u8;
     at + 2
 }
 
