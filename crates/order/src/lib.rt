@@ -21,8 +21,14 @@ fn check_both(s: Timestamp, t: Timestamp) -> Result<Timestamp, Refusal>
     ensures value { result ≡ check_both s t }
     ensures accepted { OnOk result (Accepted s × Accepted t) }
 {
-    timestamp::check(s)?;
-    timestamp::check(t)
+    // By tests: an answer of a check goes through memory.
+    if !timestamp::is_accepted(s) {
+        return timestamp::check(s);
+    }
+    if !timestamp::is_accepted(t) {
+        return timestamp::check(t);
+    }
+    Ok(t)
 }
 
 // By the instants.
