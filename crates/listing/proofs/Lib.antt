@@ -3,3 +3,4 @@ mod Lines
 mod Puts
 mod Listed
 mod Inputs
+mod Numbers

@@ -1,6 +1,7 @@
 -- What holds of a tally: its counts add up, every scan is of one kind, and the last kept scans only become more. Assumes nothing.
-use Rattle.std.proofs.Common.{◌≡◌, refl, ap, ℕ, suc, ◌+◌, ◌≤◌, Bool, true}
-use Rattle.std.proofs.Common.{false, cond, List, [], ◌∷◌, ◌++◌, length, arith}
+use Rattle.std.proofs.Common.{◌≡◌, refl, ap, ℕ, zero, suc, ◌+◌, ◌≤◌, ◌<◌, Bool, true}
+use Rattle.std.proofs.Common.{false, cond, List, [], ◌∷◌, ◌++◌, length, take, drop, get_or, arith}
+use Rattle.std.specs.List.{AllByRecursion}
 use Rattle.scans.specs.Tally.{same_post, place_of, with_last, kind_of, counts_of, added}
 use Rattle.scans.specs.Tally.{last_after, Tally, no_tally, tallied, tally_from, tally_of}
 use Rattle.scans.specs.declared.Scan.{Scan}
@@ -58,6 +59,19 @@ place_within x (y ∷ l) = go (place_within x l) (same_post x y)
     go h true = omega arith
     go h false = omega arith
 
+-- a scan in its place: all before it and all after it stay
+pub last_is : (x : Scan) (l : List Scan) → with_last x l ≡ take (place_of x l) l ++ x ∷ drop (suc (place_of x l)) l
+unfolding place_of with_last
+last_is x [] = refl
+last_is x (y ∷ l) = go (last_is x l) (same_post x y)
+  where
+    go : with_last x l ≡ take (place_of x l) l ++ x ∷ drop (suc (place_of x l)) l
+        → (t : Bool)
+        → cond t (x ∷ l) (y ∷ with_last x l)
+        ≡ take (cond t 0 (suc (place_of x l))) (y ∷ l) ++ x ∷ drop (suc (cond t 0 (suc (place_of x l)))) (y ∷ l)
+    go h true = refl
+    go h false = ap (λ (r : List Scan). y ∷ r) h
+
 -- as many as before, or one more where the place is the next
 pub last_length : (x : Scan) (l : List Scan) → (length l ≤ length (with_last x l)) × (length (with_last x l) ≤ suc (length l))
 unfolding with_last
@@ -96,6 +110,29 @@ never_fewer w g t [] = omega arith
 never_fewer w g t (x ∷ xs) =
     let k = kind_of w g t.last x in
     omega (arith, never_fewer w g (tallied k t x) xs, after_more k x t.last)
+
+-- ---- what holds of every scan holds of the last kept ones
+
+module _ (P : Scan → Type 0) where
+  pub last_each : (x : Scan) (l : List Scan) → P x → AllByRecursion P l → AllByRecursion P (with_last x l)
+  unfolding with_last
+  last_each x [] p q = (p, tt)
+  last_each x (y ∷ l) p q = go (last_each x l p q.1) (same_post x y)
+    where
+      go : AllByRecursion P (with_last x l) → (t : Bool) → AllByRecursion P (cond t (x ∷ l) (y ∷ with_last x l))
+      go h true = (p, q.1)
+      go h false = (q.0, h)
+
+  pub after_each : (k : Kind) (x : Scan) (l : List Scan) → P x → AllByRecursion P l → AllByRecursion P (last_after k x l)
+  after_each Double x l p q = q
+  after_each Kept x l p q = last_each x l p q
+  after_each Gap x l p q = last_each x l p q
+  after_each Backward x l p q = last_each x l p q
+
+  pub each_at : (l : List Scan) (i : ℕ) (d : Scan) → AllByRecursion P l → i < length l → P (get_or l i d)
+  each_at [] i d q h = absurd (omega arith)
+  each_at (y ∷ l) zero d q h = q.0
+  each_at (y ∷ l) (suc i) d q h = each_at l i d q.1 (omega arith)
 
 -- ---- a tally of one scan more, and of scans and more after them
 
