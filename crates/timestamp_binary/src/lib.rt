@@ -6,6 +6,6 @@ mod value;
 
 pub use body::{MAX_BODY_LENGTH, MAX_TIMESTAMP_LENGTH, encode_timestamp};
 pub use value::{
-    LENGTH_FOLLOWS, MAX_INLINE_LENGTH, TYPE_DESCRIPTOR, encode_timestamp_value, gather_value,
+    LENGTH_FOLLOWS, MAX_INLINE_LENGTH, Span, TYPE_DESCRIPTOR, encode_timestamp_value, gather_value,
     gathered_value,
 };

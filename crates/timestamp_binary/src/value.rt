@@ -8,7 +8,6 @@ ghost use Rattle.ion.specs.Value.Encode.{body_of, value_of};
 use crate::body::{MAX_TIMESTAMP_LENGTH, put_body};
 use binary::var_uint::END_FLAG;
 use ion::{Refusal, Timestamp};
-use std::ops::Range;
 
 // The type descriptor of a timestamp, to which the length of its body is added.
 pub const TYPE_DESCRIPTOR: u8 = 0x60;
@@ -19,10 +18,17 @@ pub const MAX_INLINE_LENGTH: usize = 13;
 // The type descriptor of a longer body: its length follows.
 pub const LENGTH_FOLLOWS: u8 = 0x6e;
 
+// Where bytes stand in an array.
+#[derive(Clone, Copy)]
+pub struct Span {
+    pub start: usize,
+    pub end: usize,
+}
+
 // Gathers the value of an accepted timestamp in `bytes`, and answers where it stands: its header goes into the two bytes before
 // its body, which begins at index 2.
 #[tactic(auto, using(crate::proofs::Headers::headers))]
-pub fn gather_value(bytes: &mut [u8], s: Timestamp) -> Range<usize>
+pub fn gather_value(bytes: &mut [u8], s: Timestamp) -> Span
     requires accepted { Accepted s }
     requires room { 20 ≤ length bytes.old }
     ensures value { Between bytes.new result.start result.end (value_of s) }
@@ -32,11 +38,11 @@ pub fn gather_value(bytes: &mut [u8], s: Timestamp) -> Range<usize>
     let length = end - 2;
     if length <= MAX_INLINE_LENGTH {
         bytes[1] = TYPE_DESCRIPTOR + length as u8;
-        1..end
+        Span { start: 1, end }
     } else {
         bytes[0] = LENGTH_FOLLOWS;
         bytes[1] = END_FLAG + length as u8;
-        0..end
+        Span { start: 0, end }
     }
 }
 
@@ -46,8 +52,8 @@ pub fn gathered_value(bytes: &mut [u8], s: Timestamp) -> &[u8]
     requires room { 20 ≤ length bytes.old }
     ensures { result.now ≡ value_of s }
 {
-    let place = gather_value(bytes, s);
-    &bytes[place]
+    let Span { start, end } = gather_value(bytes, s);
+    &bytes[start..end]
 }
 
 // Writes the value of a timestamp from index `at` on.
