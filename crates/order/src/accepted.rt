@@ -10,8 +10,9 @@ use ion::{Distance, Timestamp};
 use packed::SECOND_SHIFT;
 use std::cmp::Ordering;
 
-// With the same offset no day is counted: the words cut at the second lie as the instants do.
+// With the same offset no day is counted: the words cut at the second lie as the instants do. Inlined into `cmp` and `eq`.
 #[tactic(auto, using(crate::proofs::CountsInSeconds::shifted))]
+#[inline(always)]
 pub(crate) fn order_of(s: Timestamp, t: Timestamp) -> Ordering
     requires { Accepted s × Accepted t }
     ensures { result ≡ nat_cmp (count_of s) (count_of t) }
