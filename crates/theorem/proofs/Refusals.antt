@@ -2,6 +2,7 @@
 use mathlib.Core.Path.{◌≡◌, refl, sym, ap, ◌∙◌}
 use mathlib.Core.Bool.{true, false, true≢false, false≢true}
 use Prim.Native.Nat.{ℕ}
+use native.Mathlib.Omega.{arith}
 use Rattle.std.specs.Prelude.{List, Result, Ok, Err, Some, is_ok}
 use Rattle.std.specs.Result.{result_and, result_unwrap_or}
 use Rattle.ion.specs.Pair.Offset.{offset_minutes, minutes_of}
@@ -9,6 +10,7 @@ use Rattle.ion.specs.Pair.Pair.{no_stamp}
 use Rattle.ion.specs.Calls.Build.{first_of, range_checks, local_checks, utc_checks, given_time, moved_time, to_offset}
 use Rattle.ion.specs.Calls.Build.{is_utc, pair_at, build_of}
 use Rattle.ion.specs.Calls.Check.{check_of}
+use Rattle.ion.specs.Calls.Refusal.{number_of, number_in}
 use Rattle.ion.specs.Text.ReadText.{read_text_of}
 use Rattle.ion.specs.declared.BuilderFields.{BuilderFields}
 use Rattle.ion.specs.declared.BuilderOffset.{BuilderOffset}
@@ -16,6 +18,7 @@ use Rattle.ion.specs.declared.BuilderOffset.TheVariants.{Unknown, FromLocalField
 use Rattle.ion.specs.declared.Timestamp.{Timestamp}
 use Rattle.ion.specs.declared.offset.OffsetMinutes.{OffsetMinutes}
 use Rattle.ion.specs.declared.refusal.Refusal.{Refusal}
+use Rattle.ion.specs.declared.refusal.Refusal.TheVariants as refusal
 use Rattle.builder.proofs.Routed.{routed, build_routed}
 
 -- ---- the pair (0, 0)
@@ -33,6 +36,37 @@ check_refuses s = alone (check_of s) no_stamp
 
 pub refused_alone : (s : List ℕ) → is_ok (read_text_of s) ≡ false → result_unwrap_or (read_text_of s) no_stamp ≡ no_stamp
 refused_alone s = alone (read_text_of s) no_stamp
+
+-- ---- the number 0
+
+-- C is handed a number: 0 is that of accepted answers alone
+some_number : (r : Refusal) → number_of r ≡ 0 → ⊥
+some_number refusal.Fraction e = omega arith
+some_number refusal.Year e = omega arith
+some_number refusal.Month e = omega arith
+some_number refusal.Day e = omega arith
+some_number refusal.Hour e = omega arith
+some_number refusal.Minute e = omega arith
+some_number refusal.Second e = omega arith
+some_number refusal.Digits e = omega arith
+some_number refusal.Offset e = omega arith
+some_number refusal.NoDay e = omega arith
+some_number refusal.LocalYear e = omega arith
+some_number refusal.Pair e = omega arith
+some_number refusal.InputEnds e = omega arith
+some_number refusal.FirstByte e = omega arith
+some_number refusal.Body e = omega arith
+some_number refusal.ShortBuffer e = omega arith
+some_number refusal.LongInput e = omega arith
+some_number refusal.Form e = omega arith
+some_number refusal.Number e = omega arith
+some_number refusal.Words e = omega arith
+some_number refusal.Window e = omega arith
+some_number refusal.Posts e = omega arith
+
+pub zero_is_ok : {A : Type 0} (r : Result A Refusal) → number_in r ≡ 0 → is_ok r ≡ true
+zero_is_ok (Ok x) e = refl
+zero_is_ok (Err r) e = absurd (some_number r e)
 
 -- ---- the build
 
