@@ -25,7 +25,9 @@ fn put_text(buf: &mut [u8], at: usize, s: Timestamp) -> usize
     output::put(buf, end, b"\n".as_slice())
 }
 
-// Puts `stop`, a space, the refusal's number and a line feed from index `at` on; the index after them.
+// Puts `stop`, a space, the refusal's number and a line feed from index `at` on; the index after them. Not inlined: with it in `run`
+// the output's room is zeroed twice.
+#[inline(never)]
 fn put_stop(buf: &mut [u8], at: usize, refusal: Refusal) -> usize
     requires { at + 8 ≤ length buf.old }
     ensures run { Run buf.old at (stop_line refusal) buf.new result }
